@@ -1,0 +1,9 @@
+pub mod Cuts
+pub mod Tallies
+pub mod ReadBack
+pub mod Halves
+pub mod Canon
+pub mod Complete
+pub mod Houses
+pub mod Unique
+pub mod ReadSteps

@@ -1,0 +1,4 @@
+pub mod Pulses
+pub mod Rules
+pub mod Reading
+pub mod House

@@ -1,0 +1,8 @@
+//! Signed pulses on a track, and the numbers that stand for sets of them.
+
+/// A pulse and its sign.
+pub mod pulse;
+/// Numbers of a known count of bits.
+mod bits;
+/// The index rules undone: from a number to its pulses.
+mod read;
