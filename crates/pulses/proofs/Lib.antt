@@ -7,3 +7,8 @@ pub mod Complete
 pub mod Houses
 pub mod Unique
 pub mod ReadSteps
+pub mod Putting
+pub mod Arranged
+pub mod Signs
+pub mod Checked
+pub mod Indices

@@ -2,3 +2,5 @@ pub mod Pulses
 pub mod Rules
 pub mod Reading
 pub mod House
+pub mod Sets
+pub mod Laws

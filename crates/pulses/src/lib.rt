@@ -6,3 +6,5 @@ pub mod pulse;
 mod bits;
 /// The index rules undone: from a number to its pulses.
 mod read;
+/// The pulses of a track, questioned and put in order.
+pub mod set;

@@ -1,5 +1,5 @@
 ghost use mathlib.Core.Path.{_≡_};
-ghost use Rattle.pulses.specs.Pulses.{bit as bitOf, opposite as oppositeOf};
+ghost use Rattle.pulses.specs.Pulses.{bit as bitOf, opposite as oppositeOf, alike as likeOf};
 
 /// The sign of a pulse.
 #[derive(Clone, Copy, PartialEq, Eq, Debug)]
@@ -26,6 +26,16 @@ impl Sign {
         match self {
             Sign::Plus => Sign::Minus,
             Sign::Minus => Sign::Plus,
+        }
+    }
+
+    /// Whether the two signs are one.
+    pub(crate) fn alike(self, other: Sign) -> bool
+        ensures { λ r. ⌜ r ≡ likeOf self other ⌝ }
+    {
+        match self {
+            Sign::Plus => matches!(other, Sign::Plus),
+            Sign::Minus => matches!(other, Sign::Minus),
         }
     }
 }
