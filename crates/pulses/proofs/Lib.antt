@@ -11,4 +11,6 @@ pub mod Putting
 pub mod Arranged
 pub mod Signs
 pub mod Checked
+pub mod Within
+pub mod WriteSteps
 pub mod Indices

@@ -89,7 +89,7 @@ same-half H h ps qs e x s =
     ⊎-elim (λ l. tally-half H h ps x s l ∙ e (x + h * 2 ^ H) s ∙ sym (tally-half H h qs x s l))
     (λ l. half-past H h ps x s l ∙ sym (half-past H h qs x s l)) (cases-lt x (2 ^ H))
 
-sorted-join : (ps qs : List Pulse) → Sorted ps → Sorted qs → All (λ p. All (λ q. p .place ≤ q .place) qs) ps → Sorted (ps ++ qs)
+pub sorted-join : (ps qs : List Pulse) → Sorted ps → Sorted qs → All (λ p. All (λ q. p .place ≤ q .place) qs) ps → Sorted (ps ++ qs)
 sorted-join [] qs a b u = b
 sorted-join (p ∷ ps) qs a b u = (all-append _ ps qs (a .0) (u .0), sorted-join ps qs (a .1) b (u .1))
 

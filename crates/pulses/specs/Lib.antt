@@ -4,3 +4,4 @@ pub mod Reading
 pub mod House
 pub mod Sets
 pub mod Laws
+pub mod Within

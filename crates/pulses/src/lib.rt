@@ -2,9 +2,11 @@
 
 /// A pulse and its sign.
 pub mod pulse;
+/// The pulses of a track, questioned and put in order.
+pub mod set;
 /// Numbers of a known count of bits.
 mod bits;
 /// The index rules undone: from a number to its pulses.
 mod read;
-/// The pulses of a track, questioned and put in order.
-pub mod set;
+/// The index rules by the house's choices: from pulses to their number.
+mod write;
