@@ -22,10 +22,10 @@ use Rattle.pulses.specs.declared.pulse.Sign.{Sign}
 use Rattle.pulses.specs.declared.pulse.Sign.the-variants.{Plus, Minus}
 use Rattle.pulses.specs.Pulses.{alike, opposite, pulse, hit, tally, Same, Lawful, On, Sorted, sort}
 use Rattle.pulses.specs.Sets.{every, on-track, one-signed, checked, none, at, padded, mapOk, trackSet, put, line-up, apart}
-use Rattle.pulses.proofs.Tallies.{hit-self, hit-apart, lawful-same, same-sym}
+use Rattle.pulses.proofs.Tallies.{hit-self, hit-cases, lawful-same, same-sym}
 use Rattle.pulses.proofs.Canon.{sort-is, same-sort}
 use Rattle.pulses.proofs.Arranged.{line-up-length, line-up-all, line-up-sorted, line-up-tally, put-length}
-use Rattle.pulses.proofs.Signs.{hit-other, Steps, lawful-from-steps, steps-from-lawful}
+use Rattle.pulses.proofs.Signs.{Steps, lawful-from-steps, steps-from-lawful}
 
 -- a test of every element
 and-true : (a b : Bool) → (a && b) ≡ true → (a ≡ true) × (b ≡ true)
@@ -51,16 +51,6 @@ on-from-test M ps h = all-from-test _ (λ p. p .place < 2 ^ M) (λ p e. ltb-true
 pub test-from-on : (M : ℕ) (ps : List Pulse) → On M ps → on-track M ps ≡ true
 unfolding on-track
 test-from-on M ps a = test-from-all _ (λ p. p .place < 2 ^ M) (λ p l. lt-ltb (p .place) (2 ^ M) l) ps a
-
--- a pulse is at a place with a sign, or adds nothing there
-by-sign : (y x : ℕ) (t s : Sign) → y ≡ x → (hit (pulse y t) x s ≡ 0) ⊎ ((y ≡ x) × (t ≡ s))
-by-sign y x Plus Plus e = inr (e, refl)
-by-sign y x Minus Minus e = inr (e, refl)
-by-sign y x Plus Minus e = inl (hit-other (pulse y Plus) x Minus refl)
-by-sign y x Minus Plus e = inl (hit-other (pulse y Minus) x Plus refl)
-
-hit-cases : (p : Pulse) (x : ℕ) (s : Sign) → (hit p x s ≡ 0) ⊎ ((p .place ≡ x) × (p .sign ≡ s))
-hit-cases p x s = ⊎-elim (by-sign (p .place) x (p .sign) s) (λ e. inl (hit-apart (p .place) x (p .sign) s e)) (cases-eq (p .place) x)
 
 -- what has this place and sign has nothing of the other sign there
 abbrev Alone : List Pulse → Pulse → Type 0

@@ -14,3 +14,5 @@ pub mod Checked
 pub mod Within
 pub mod WriteSteps
 pub mod Indices
+pub mod Rules
+pub mod CallLaws

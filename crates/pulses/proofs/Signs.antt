@@ -15,7 +15,7 @@ use Rattle.pulses.specs.declared.pulse.Pulse.{Pulse}
 use Rattle.pulses.specs.declared.pulse.Sign.{Sign}
 use Rattle.pulses.specs.declared.pulse.Sign.the-variants.{Plus, Minus}
 use Rattle.pulses.specs.Sets.{none, at, apart}
-use Rattle.pulses.proofs.Tallies.{hit-self, hit-apart}
+use Rattle.pulses.proofs.Tallies.{hit-self, hit-apart, hit-other}
 use Rattle.pulses.specs.Pulses.{alike, hit, tally, Lawful, Sorted}
 
 abbrev one-if : Bool → ℕ
@@ -71,10 +71,6 @@ unfolding hit apart
 no-other p s [] e us = refl
 no-other p s (q ∷ qs) e us =
     omega (arith, raw (p .place) (q .place) (p .sign) (q .sign) s e (us .0), no-other p s qs e (us .1))
-
-pub hit-other : (p : Pulse) (x : ℕ) (s : Sign) → alike (p .sign) s ≡ false → hit p x s ≡ 0
-unfolding hit
-hit-other p x s e = grind (arith, tells)
 
 sign-cases : (s : Sign) → (alike s Plus ≡ false) ⊎ (alike s Minus ≡ false)
 sign-cases Minus = inl refl

@@ -1,7 +1,7 @@
 -- Tallies of lists of pulses: what joins, moves and halves do to them.
 use mathlib.Core.Path.{_≡_, refl, sym, ap, ap₂, subst, _∙_}
 use mathlib.Core.List.{List, [], _∷_, _++_, map}
-use mathlib.Core.Bool.{true, cond, _&&_}
+use mathlib.Core.Bool.{true, false, cond, _&&_}
 use Rattle.pulses.specs.declared.pulse.Sign.{Sign}
 use Rattle.pulses.specs.declared.pulse.Sign.the-variants.{Plus, Minus}
 use mathlib.Core.Logic.{_⊎_, inl, inr, ⊎-elim}
@@ -10,7 +10,8 @@ use native.Mathlib.Omega.{arith}
 use lib.Dec.{eqb}
 use lib.ListN.{length, take, drop}
 use Rattle.std.specs.shelf.Lists.{All, kept-by}
-use Rattle.std.proofs.shelf.Tests.{eqb-true, eqb-false, eq-eqb, ne-eqb, cases-eq, cases-lt}
+use Rattle.std.proofs.shelf.Tests.{eqb-true, eqb-false, eq-eqb, ne-eqb, cases-eq, cases-lt, cond-both}
+use Rattle.std.proofs.shelf.Ways.{tells}
 use Rattle.pulses.specs.declared.pulse.Pulse.{Pulse}
 use Rattle.pulses.specs.Pulses.{pulse, hit, tally, Same, Lawful, On, up, half, alike}
 
@@ -91,3 +92,48 @@ lawful-right ps qs l x =
 pub lawful-down : (n : ℕ) (ps : List Pulse) → Lawful (up n ps) → Lawful ps
 lawful-down n ps l x =
     ⊎-elim (λ e. inl (omega (arith, tally-up ps n x Plus))) (λ e. inr (omega (arith, tally-up ps n x Minus))) (l (x + n))
+
+-- a pulse of the other sign adds nothing
+pub hit-other : (p : Pulse) (x : ℕ) (s : Sign) → alike (p .sign) s ≡ false → hit p x s ≡ 0
+unfolding hit
+hit-other p x s e = grind (arith, tells)
+
+-- a pulse is at a place with a sign, or adds nothing there
+by-sign : (y x : ℕ) (t s : Sign) → y ≡ x → (hit (pulse y t) x s ≡ 0) ⊎ ((y ≡ x) × (t ≡ s))
+by-sign y x Plus Plus e = inr (e, refl)
+by-sign y x Minus Minus e = inr (e, refl)
+by-sign y x Plus Minus e = inl (hit-other (pulse y Plus) x Minus refl)
+by-sign y x Minus Plus e = inl (hit-other (pulse y Minus) x Plus refl)
+
+pub hit-cases : (p : Pulse) (x : ℕ) (s : Sign) → (hit p x s ≡ 0) ⊎ ((p .place ≡ x) × (p .sign ≡ s))
+hit-cases p x s = ⊎-elim (by-sign (p .place) x (p .sign) s) (λ e. inl (hit-apart (p .place) x (p .sign) s e)) (cases-eq (p .place) x)
+
+-- one set has one size: take a pulse out of both
+without : Pulse → List Pulse → List Pulse
+without p [] = []
+without p (q ∷ qs) = cond (eqb (hit q (p .place) (p .sign)) 0) (q ∷ without p qs) qs
+
+hit-one : (p q : Pulse) → (hit q (p .place) (p .sign) ≡ 0 → ⊥) → q ≡ p
+hit-one p q n = ⊎-elim (λ e. absurd (n e)) (λ e. ap₂ pulse (e .0) (e .1)) (hit-cases q (p .place) (p .sign))
+
+record Removed (p : Pulse) (qs rs : List Pulse) : Type 0 where
+  long : length qs ≡ suc (length rs)
+  same : (x : ℕ) (s : Sign) → tally qs x s ≡ hit p x s + tally rs x s
+
+removed : (p : Pulse) (qs : List Pulse) → 0 < tally qs (p .place) (p .sign) → Removed p qs (without p qs)
+unfolding without
+removed p [] h = absurd (omega arith)
+removed p (q ∷ qs) h =
+    cond-both (eqb (hit q (p .place) (p .sign)) 0) (q ∷ without p qs) qs (Removed p (q ∷ qs))
+    (λ e.
+    let z = eqb-true (hit q (p .place) (p .sign)) 0 e in
+    let r = removed p qs (omega arith) in
+    record { long = ap suc (r .long); same = λ x s. omega (arith, r .same x s) })
+    (λ e. let i = hit-one p q (eqb-false (hit q (p .place) (p .sign)) 0 e) in record { long = refl; same = λ x s. omega (arith, ap (λ z. hit z x s) i) })
+
+pub same-size : (ps qs : List Pulse) → Same ps qs → length ps ≡ length qs
+same-size [] [] e = refl
+same-size [] (q ∷ qs) e = absurd (omega (arith, e (q .place) (q .sign), hit-self (q .place) (q .sign)))
+same-size (p ∷ ps) qs e =
+    let r = removed p qs (omega (arith, e (p .place) (p .sign), hit-self (p .place) (p .sign))) in
+    ap suc (same-size ps (without p qs) (λ x s. omega (arith, e x s, r .same x s))) ∙ sym (r .long)

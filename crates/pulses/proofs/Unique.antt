@@ -17,7 +17,7 @@ use Rattle.pulses.specs.declared.pulse.Pulse.{Pulse}
 use Rattle.pulses.specs.Pulses.{pulse, bit, hit, tally, Same, Lawful, On, Sorted, up, half, Group, insert, sort, opposite}
 use Rattle.pulses.specs.Rules.{Choice, Lowest, Lower-first, One, Two, Three, Close, Four, Five, Six}
 use Rattle.pulses.specs.House.{one-house, two-places, two-rising, two-house, fuller, others, three-by, three-house, close-by, close-house, four-halves, four-house, five-by, five-house, six-halves, six-house}
-use Rattle.pulses.proofs.Tallies.{hit-self, same-trans, same-append, same-swap, same-up, same-refl, same-sym, up-zero, tally-append, lawful-same, lawful-left, lawful-right, lawful-down, hit-apart, hit-up, hit-place}
+use Rattle.pulses.proofs.Tallies.{hit-self, same-size, same-trans, same-append, same-swap, same-up, same-refl, same-sym, up-zero, tally-append, lawful-same, lawful-left, lawful-right, lawful-down, hit-apart, hit-up, hit-place}
 use Rattle.pulses.proofs.Halves.{Halves, halves, Parted, parted, Full, full, half-none, half-in, half-out, half-append, half-up, half-up-other, on-half, on-up, length-up, sorted-half, sorted-take, lowest-first, group-take, group-drop}
 use Rattle.pulses.proofs.Houses.{one-houses, two-houses, three-houses, group-size}
 use Rattle.pulses.proofs.Canon.{same-sorted, same-sort, sorted-sort, sort-is}
@@ -33,7 +33,7 @@ tally-all P [] x s a h = absurd (omega arith)
 tally-all P (p ∷ ps) x s a h =
     ⊎-elim (λ e. subst P e (a .0)) (λ e. tally-all P ps x s (a .1) (omega (arith, hit-apart (p .place) x (p .sign) s e))) (cases-eq (p .place) x)
 
-all-same : (P : ℕ → Type 0) (ps qs : List Pulse) → Same ps qs → All (λ p. P (p .place)) qs → All (λ p. P (p .place)) ps
+pub all-same : (P : ℕ → Type 0) (ps qs : List Pulse) → Same ps qs → All (λ p. P (p .place)) qs → All (λ p. P (p .place)) ps
 all-same P ps qs e a = all-tally P ps (λ x s h. tally-all P qs x s a (omega (arith, e x s)))
 
 length-insert : (p : Pulse) (ps : List Pulse) → length (insert p ps) ≡ suc (length ps)
@@ -42,21 +42,15 @@ length-insert p [] = refl
 length-insert p (q ∷ qs) =
     cond-both (leb (p .place) (q .place)) (p ∷ q ∷ qs) (q ∷ insert p qs) (λ z. length z ≡ suc (suc (length qs))) (λ e. refl) (λ e. ap suc (length-insert p qs))
 
-length-sort : (ps : List Pulse) → length (sort ps) ≡ length ps
+pub length-sort : (ps : List Pulse) → length (sort ps) ≡ length ps
 unfolding sort
 length-sort [] = refl
 length-sort (p ∷ ps) = length-insert p (sort ps) ∙ ap suc (length-sort ps)
 
-same-length : (ps qs : List Pulse) → Lawful ps → Same ps qs → length ps ≡ length qs
-same-length ps qs l e =
-    sym (length-sort ps)
-    ∙ ap length (sym (sort-is (sort ps) qs (lawful-same ps (sort ps) (λ x s. sym (same-sort ps x s)) l) (sorted-sort ps) (λ x s. same-sort ps x s ∙ e x s)))
-    ∙ length-sort qs
-
-group-same : (M n : ℕ) (ps qs : List Pulse) → Same ps qs → Group M n qs → Group M n ps
+pub group-same : (M n : ℕ) (ps qs : List Pulse) → Same ps qs → Group M n qs → Group M n ps
 group-same M n ps qs e g =
     let l = lawful-same qs ps (same-sym ps qs e) (g .lawful) in
-    record { size = same-length ps qs l e ∙ g .size; on = all-same (λ x. x < 2 ^ M) ps qs e (g .on); lawful = l }
+    record { size = same-size ps qs e ∙ g .size; on = all-same (λ x. x < 2 ^ M) ps qs e (g .on); lawful = l }
 
 -- a half of the same set is the same set
 tally-half : (H h : ℕ) (ps : List Pulse) (x : ℕ) (s : Sign) → x < 2 ^ H → tally (half H h ps) x s ≡ tally ps (x + h * 2 ^ H) s
@@ -84,7 +78,7 @@ half-past H h ps x s l =
     λ k. let t : x < 2 ^ H = tally-all (λ z. z < 2 ^ H) (half H h ps) x s (on-half H h ps) k in omega arith in
     omega arith
 
-same-half : (H h : ℕ) (ps qs : List Pulse) → Same ps qs → Same (half H h ps) (half H h qs)
+pub same-half : (H h : ℕ) (ps qs : List Pulse) → Same ps qs → Same (half H h ps) (half H h qs)
 same-half H h ps qs e x s =
     ⊎-elim (λ l. tally-half H h ps x s l ∙ e (x + h * 2 ^ H) s ∙ sym (tally-half H h qs x s l))
     (λ l. half-past H h ps x s l ∙ sym (half-past H h qs x s l)) (cases-lt x (2 ^ H))
@@ -150,7 +144,7 @@ took H h k n qs group rest b a g e gg low =
 
 -- sizes and places of what the rules join
 sized : (M n : ℕ) (ps qs : List Pulse) → Lawful ps → Same ps qs → length qs ≡ n → On M qs → Group M n ps
-sized M n ps qs l e k o = record { size = same-length ps qs l e ∙ k; on = all-same (λ x. x < 2 ^ M) ps qs e o; lawful = l }
+sized M n ps qs l e k o = record { size = same-size ps qs e ∙ k; on = all-same (λ x. x < 2 ^ M) ps qs e o; lawful = l }
 
 one-sized : {M : ℕ} {ps : List Pulse} {i : ℕ} → One M ps i → Lawful ps → Group M 1 ps
 one-sized (One.one M p s ps h e) l = sized M 1 ps (pulse p s ∷ []) l e refl (h, tt)
@@ -167,7 +161,7 @@ module _ (ps js ks : List Pulse) (m : ℕ) (l : Lawful ps) (e : Same ps (up m js
   in-back : Lawful ks
   in-back = lawful-right (up m js) ks (lawful-same ps (up m js ++ ks) e l)
 
-sort-same : (ps qs : List Pulse) → Lawful ps → Same ps qs → sort ps ≡ sort qs
+pub sort-same : (ps qs : List Pulse) → Lawful ps → Same ps qs → sort ps ≡ sort qs
 sort-same ps qs l e =
     sym (sort-is (sort ps) qs (lawful-same ps (sort ps) (λ x s. sym (same-sort ps x s)) l) (sorted-sort ps) (λ x s. same-sort ps x s ∙ e x s))
 
@@ -239,7 +233,7 @@ close-is (Close.close H h i j ps pair rest b e low first u v) qs a g f =
     let p = parted H h 2 4 qs b (t .has) g in
     let r = halves H 0 4 qs (omega arith) g in
     let w = fuller-is 2 H h qs b (t .has)
-    (λ m. let q = same-length (half H 0 qs) (half H 0 ps) (r .here .lawful) (same-half H 0 qs ps (same-sym ps qs f)) in omega (arith, first m, q)) in
+    (λ m. let q = same-size (half H 0 qs) (half H 0 ps) (same-half H 0 qs ps (same-sym ps qs f)) in omega (arith, first m, q)) in
     ap₂ (λ y z. y + h * 2 ^ (2 * suc H - 1) + z * 2 ^ (2 * suc H)) (two-is H pair _ i u (p .front) (t .front)) (two-is (suc H) rest _ j v (p .rest) (t .back))
     ∙ ap (λ z. close-by H z qs) (sym w)
 
@@ -416,7 +410,7 @@ six-is (Six.none H h i j ps quint sixth b e low u v) qs a g f =
     ∙ ap (λ z. tally z x s)
     (half-append H h (up (h * 2 ^ H) quint) (up (h * 2 ^ H) sixth) ∙ ap₂ (λ y z. y ++ z) (half-up H h quint (k .on)) (half-up H h sixth (m .on))) in
     let long : length (half H h qs) ≡ 6 =
-    same-length (half H h qs) (quint ++ sixth) (r .here .lawful) all ∙ omega (arith, length-append quint sixth, k .size, m .size) in
+    same-size (half H h qs) (quint ++ sixth) all ∙ omega (arith, length-append quint sixth, k .size, m .size) in
     let none : length (half H (1 - h) qs) ≡ 0 = omega (arith, r .long) in
     let full : Group H 6 (half H h qs) = group-size H _ 6 (half H h qs) long (r .here) in
     let last : Same sixth (drop 5 (half H h qs)) =

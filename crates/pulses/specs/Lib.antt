@@ -5,3 +5,4 @@ pub mod House
 pub mod Sets
 pub mod Laws
 pub mod Within
+pub mod Calls

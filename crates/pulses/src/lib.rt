@@ -10,3 +10,5 @@ mod bits;
 mod read;
 /// The index rules by the house's choices: from pulses to their number.
 mod write;
+/// The calls: an index written, an index read.
+pub mod index;
