@@ -51,10 +51,10 @@ in-use n M h =
     }
 
 -- an answer is accepted or refused, never both
-never : {X : Type 0} (x : X) (e : Refusal) → _≡_ {A = Result X Refusal} (Err e) (Ok x) → ⊥
+pub never : {X : Type 0} (x : X) (e : Refusal) → _≡_ {A = Result X Refusal} (Err e) (Ok x) → ⊥
 never x e h = let z : _≡_ {A = ℕ} 0 1 = cc in omega arith
 
-ok-is : {X : Type 0} (x y : X) → _≡_ {A = Result X Refusal} (Ok x) (Ok y) → x ≡ y
+pub ok-is : {X : Type 0} (x y : X) → _≡_ {A = Result X Refusal} (Ok x) (Ok y) → x ≡ y
 ok-is x y h = cc
 
 -- what a checked set is

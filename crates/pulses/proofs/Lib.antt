@@ -16,3 +16,4 @@ pub mod WriteSteps
 pub mod Indices
 pub mod Rules
 pub mod CallLaws
+pub mod Border

@@ -6,3 +6,4 @@ pub mod Sets
 pub mod Laws
 pub mod Within
 pub mod Calls
+pub mod Octets

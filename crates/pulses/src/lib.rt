@@ -12,3 +12,5 @@ mod read;
 mod write;
 /// The calls: an index written, an index read.
 pub mod index;
+/// The calls for a host program in C.
+pub mod export;
