@@ -17,3 +17,4 @@ pub mod Indices
 pub mod Rules
 pub mod CallLaws
 pub mod Border
+pub mod Worked

@@ -7,3 +7,4 @@ pub mod Laws
 pub mod Within
 pub mod Calls
 pub mod Octets
+pub mod Examples

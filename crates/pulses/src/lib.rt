@@ -14,3 +14,5 @@ mod write;
 pub mod index;
 /// The calls for a host program in C.
 pub mod export;
+/// Worked examples of the rules, proved.
+pub mod examples;

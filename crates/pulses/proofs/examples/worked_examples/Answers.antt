@@ -1,0 +1,5 @@
+use Rattle.pulses.proofs.Worked.{worked-examples}
+use Rattle.pulses.proofs.examples.worked_examples.Needs as need
+
+pub returns : need.returns
+returns c = worked-examples
