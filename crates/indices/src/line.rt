@@ -21,7 +21,14 @@ pub struct Line {
 
 impl Line {
     pub fn new() -> Line {
-        Line { numbers: [0; 3], count: 0, in_number: false, returned: false, empty: true, sound: true }
+        Line {
+            numbers: [0; 3],
+            count: 0,
+            in_number: false,
+            returned: false,
+            empty: true,
+            sound: true,
+        }
     }
 
     /// Whether no octet was taken yet.
@@ -63,7 +70,11 @@ impl Line {
     pub fn question(self) -> Option<Question> {
         if self.sound && self.count == 3 {
             let [pulses, width, index] = self.numbers;
-            Some(Question { pulses, width, index })
+            Some(Question {
+                pulses,
+                width,
+                index,
+            })
         } else {
             None
         }

@@ -34,8 +34,19 @@ fn reply(q: Question) -> Result<Answer, Refusal> {
     let number = number.min(6);
     let house = write_index(q.width, &row[0..number])?;
     let mut again = [NONE; 6];
-    let strict = read_index(Reading::Strict, q.pulses as usize, q.width, q.index, &mut again).is_ok();
-    Ok(Answer { row, number, house, strict })
+    let strict = read_index(
+        Reading::Strict,
+        q.pulses as usize,
+        q.width,
+        q.index,
+        &mut again,
+    ).is_ok();
+    Ok(Answer {
+        row,
+        number,
+        house,
+        strict,
+    })
 }
 
 fn print_pulses<W: Write>(out: &mut W, pulses: &[Pulse]) -> io::Result<()> {
@@ -52,7 +63,11 @@ fn print_pulses<W: Write>(out: &mut W, pulses: &[Pulse]) -> io::Result<()> {
 }
 
 fn print_answer<W: Write>(out: &mut W, q: Question) -> io::Result<()> {
-    let Question { pulses, width, index } = q;
+    let Question {
+        pulses,
+        width,
+        index,
+    } = q;
     write!(out, "{pulses}\t{width}\t{index}\t")?;
     match reply(q) {
         Ok(a) => {
@@ -105,7 +120,10 @@ impl Input {
 fn main(rt: LibcRuntime) -> io::Result<()> {
     let mut from = rt.stdin();
     let mut out = BufWriter::new(rt.stdout());
-    let mut input = Input { line: Line::new(), number: 1 };
+    let mut input = Input {
+        line: Line::new(),
+        number: 1,
+    };
     let mut buf = [0u8; 4096];
     for _ in 0..u64::MAX {
         let n = from.read(&mut buf)?;

@@ -24,8 +24,8 @@ put-cases : (P : List Pulse → Type 0) (n : ℕ) (p q : Pulse) (qs : List Pulse
 unfolding put
 put-cases P n p q qs a b =
     elim (leb-tells (p .place) (q .place)) [
-      inl h ↦ rw (h .0) (a (h .1))
-    | inr h ↦ rw (h .0) (b (h .1))
+      | inl h ↦ rw (h .0) (a (h .1))
+      | inr h ↦ rw (h .0) (b (h .1))
     ]
 
 pub put-length : (n : ℕ) (p : Pulse) (row : List Pulse) → length (put n p row) ≡ length row
@@ -49,8 +49,8 @@ put-all P n p [] l a us = absurd (omega arith)
 put-all P zero p (q ∷ qs) l a us = (a, tt)
 put-all P (suc n) p (q ∷ qs) l a us =
     put-cases (λ r. All P (take (suc (suc n)) r)) n p q qs
-      (λ _. (a, put-all P n q qs (omega arith) (us .0) (us .1)))
-      (λ _. (us .0, put-all P n p qs (omega arith) a (us .1)))
+    (λ _. (a, put-all P n q qs (omega arith) (us .0) (us .1)))
+    (λ _. (us .0, put-all P n p qs (omega arith) a (us .1)))
 
 pub put-tally : (x : ℕ) (s : Sign) (n : ℕ) (p : Pulse) (row : List Pulse) → n < length row
     → tally (take (suc n) (put n p row)) x s ≡ hit p x s + tally (take n row) x s
@@ -59,8 +59,8 @@ put-tally x s n p [] l = absurd (omega arith)
 put-tally x s zero p (q ∷ qs) l = refl
 put-tally x s (suc n) p (q ∷ qs) l =
     put-cases (λ r. tally (take (suc (suc n)) r) x s ≡ hit p x s + (hit q x s + tally (take n qs) x s)) n p q qs
-      (λ _. let h = put-tally x s n q qs (omega arith) in omega arith)
-      (λ _. let h = put-tally x s n p qs (omega arith) in omega arith)
+    (λ _. let h = put-tally x s n q qs (omega arith) in omega arith)
+    (λ _. let h = put-tally x s n p qs (omega arith) in omega arith)
 
 all-from-le : (m n : ℕ) (ps : List Pulse) → m ≤ n → All (λ q. n ≤ q .place) ps → All (λ q. m ≤ q .place) ps
 all-from-le m n [] h us = tt
@@ -72,8 +72,8 @@ put-sorted n p [] l us = absurd (omega arith)
 put-sorted zero p (q ∷ qs) l us = (tt, tt)
 put-sorted (suc n) p (q ∷ qs) l us =
     put-cases (λ r. Sorted (take (suc (suc n)) r)) n p q qs
-      (λ h. (put-all (λ y. p .place ≤ y .place) n q qs (omega arith) h (all-from-le (p .place) (q .place) (take n qs) h (us .0)), put-sorted n q qs (omega arith) (us .1)))
-      (λ h. (put-all (λ y. q .place ≤ y .place) n p qs (omega arith) (omega arith) (us .0), put-sorted n p qs (omega arith) (us .1)))
+    (λ h. (put-all (λ y. p .place ≤ y .place) n q qs (omega arith) h (all-from-le (p .place) (q .place) (take n qs) h (us .0)), put-sorted n q qs (omega arith) (us .1)))
+    (λ h. (put-all (λ y. q .place ≤ y .place) n p qs (omega arith) (omega arith) (us .0), put-sorted n p qs (omega arith) (us .1)))
 
 -- the whole list
 pub line-up-length : (ps : List Pulse) (n : ℕ) (row : List Pulse) → length (line-up ps n row) ≡ length row

@@ -198,6 +198,7 @@ reads-by-the-rules how n M i ps = record { forth = forth how; back = back how }
         by : (how : Reading) → (how ≡ Strict → house n M ps ≡ i) → Group M n ps → Sorted ps → Same (pulses-of n M i) ps → Fits n M → i < 2 ^ bits n M → Index (choice how) n M ps i
         by Open h g a e f l = index-same Choice.free n M (pulses-of n M i) ps i (every-number-reads n M i f l) e
         by Strict h g a e f l = let Q : ℕ → Type 0 = λ z. Index Choice.house n M ps z in subst Q (h refl) (house-follows n M ps f g a)
+
     back : (how : Reading) → (used n M ≡ true) × (Index (choice how) n M ps i × (Lawful ps × Sorted ps)) → readIndex how n M i ≡ Ok ps
     back how (u, (x, (l, a))) =
         let r = reading-is-right (choice how) n M ps i x in
@@ -272,13 +273,15 @@ amplitudes-tell-the-set M ps qs i j l h k =
     let g = w .group in
     let f : Group M n qs = record { size = l; on = v .group .on; lawful = v .group .lawful } in
     let jis : j ≡ house n M (sort qs) = v .is ∙ ap (λ z. house z M (sort qs)) l in
-    let same : Equal-amplitudes ps qs → Same ps qs = same-from-amplitudes ps qs (g .lawful) (f .lawful) in
-    (record {
-       forth = λ e.
-           let s = house-tells-apart n M (sort ps) (sort qs) (w .known .fits) (sort-group M n ps g) (sort-group M n qs f) (sorted-sort ps) (sorted-sort qs) (sym (w .is) ∙ e ∙ jis) in
-           equal-from-same ps qs (λ x s′. sym (same-sort ps x s′) ∙ ap (λ z. tally z x s′) s ∙ same-sort qs x s′);
-       back = λ e. w .is ∙ ap (house n M) (sort-same ps qs (g .lawful) (same e)) ∙ sym jis;
-     }, same)
+    let same : Equal-amplitudes ps qs → Same ps qs = same-from-amplitudes ps qs (g .lawful) (f .lawful) in (
+      record {
+        forth = λ e.
+            let s = house-tells-apart n M (sort ps) (sort qs) (w .known .fits) (sort-group M n ps g) (sort-group M n qs f) (sorted-sort ps) (sorted-sort qs) (sym (w .is) ∙ e ∙ jis) in
+            equal-from-same ps qs (λ x s′. sym (same-sort ps x s′) ∙ ap (λ z. tally z x s′) s ∙ same-sort qs x s′);
+        back = λ e. w .is ∙ ap (house n M) (sort-same ps qs (g .lawful) (same e)) ∙ sym jis;
+      },
+      same,
+    )
 
 pub accepts-exactly-what-is-written : (n M i : ℕ) → Accepts-exactly-what-is-written n M i
 accepts-exactly-what-is-written n M i =

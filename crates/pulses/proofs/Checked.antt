@@ -115,7 +115,7 @@ front-sorted : (ps : List Pulse) → length ps ≤ 6 → Sorted (front ps)
 front-sorted ps h = rw zero-add at (line-up-sorted ps 0 (replicate 6 none) (omega arith) tt)
 
 front-same : (ps : List Pulse) → length ps ≤ 6 → Same (front ps) ps
-front-same ps h x s = let e = rw zero-add at (line-up-tally x s ps 0 (replicate 6 none) (omega arith)) in omega arith
+front-same ps h x s = let e = simp zero-add at (line-up-tally x s ps 0 (replicate 6 none) (omega arith)) in omega arith
 
 front-length : (ps : List Pulse) → length ps ≤ 6 → length (front ps) ≡ length ps
 front-length ps h = let e : length (row-of ps) ≡ 6 = line-up-length ps 0 (replicate 6 none) in simp length-take (omega arith)

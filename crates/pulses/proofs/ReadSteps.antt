@@ -125,7 +125,7 @@ unfolding six-of six-by six-uneven
 six-step-0 zero from i c b j r s n = absurd (omega (arith, s .wide))
 six-step-0 (suc H) from i c b j r s n =
     let e : suc H - 1 ≡ H = omega arith in
-    rw (e, ← s .number, ← s .body, n, ← s .fuller, ← s .rest, up-append, up-up, up-up)
+    rw (e, ← s .number, ← s .body, n, ← s .fuller, ← s .rest, up-append) (simp up-up)
 
 pub six-step-1 : (M from i c b j r : ℕ) → SixCut M from i c b j r → c ≡ 1
     → up (j * 2 ^ (M - 1) + from) (five-of (M - 1) (r / 2 ^ M)) ++ up ((1 - j) * 2 ^ (M - 1) + from) (one-of (M - 1) (r % 2 ^ M)) ≡ up from (six-of M i)
@@ -133,7 +133,7 @@ unfolding six-of six-by six-uneven
 six-step-1 zero from i c b j r s n = absurd (omega (arith, s .wide))
 six-step-1 (suc H) from i c b j r s n =
     let e : suc H - 1 ≡ H = omega arith in
-    rw (e, ← s .number, ← s .body, n, ← s .fuller, ← s .rest, up-append, up-up, up-up)
+    rw (e, ← s .number, ← s .body, n, ← s .fuller, ← s .rest, up-append) (simp up-up)
 
 pub six-step-2 : (M from i c b j r : ℕ) → SixCut M from i c b j r → c ≡ 2
     → up (j * 2 ^ (M - 1) + from) (four-of (M - 1) (r / 2 ^ (2 * M - 1))) ++ up ((1 - j) * 2 ^ (M - 1) + from) (two-of (M - 1) (r % 2 ^ (2 * M - 1))) ≡ up from (six-of M i)
@@ -141,7 +141,7 @@ unfolding six-of six-by six-uneven
 six-step-2 zero from i c b j r s n = absurd (omega (arith, s .wide))
 six-step-2 (suc H) from i c b j r s n =
     let e : suc H - 1 ≡ H = omega arith in
-    rw (e, ← s .number, ← s .body, n, ← s .fuller, ← s .rest, up-append, up-up, up-up)
+    rw (e, ← s .number, ← s .body, n, ← s .fuller, ← s .rest, up-append) (simp up-up)
 
 pub six-step-3 : (M from i c b : ℕ) → 1 ≤ M → c ≡ i / 2 ^ (6 * M - 4) → b ≡ i % 2 ^ (6 * M - 4) → 3 ≤ c
     → up from (three-of (M - 1) (b / 2 ^ (3 * M - 2))) ++ up (1 * 2 ^ (M - 1) + from) (three-of (M - 1) (b % 2 ^ (3 * M - 2))) ≡ up from (six-of M i)

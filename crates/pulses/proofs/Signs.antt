@@ -80,16 +80,18 @@ pub lawful-from-steps : (ps : List Pulse) → Steps ps → Lawful ps
 lawful-from-steps [] h x = inl refl
 lawful-from-steps (p ∷ ps) h x =
     elim (eqb-tells (p .place) x) [
-      inl e ↦
-        let P : ℕ → Type 0 = λ x. (tally (p ∷ ps) x Plus ≡ 0) ⊎ (tally (p ∷ ps) x Minus ≡ 0) in
-        let us = follows p ps h in
-        subst P (e .1) (elim (sign-cases (p .sign)) [
-          inl f ↦ inl (omega (arith, hit-other p (p .place) Plus f, no-other p Plus ps f us))
-        | inr f ↦ inr (omega (arith, hit-other p (p .place) Minus f, no-other p Minus ps f us)) ])
-    | inr e ↦
-        elim (lawful-from-steps ps (tail p ps h) x) [
-          inl f ↦ inl (omega (arith, hit-apart (p .place) x (p .sign) Plus (e .1)))
-        | inr f ↦ inr (omega (arith, hit-apart (p .place) x (p .sign) Minus (e .1))) ]
+      | inl e ↦
+          let P : ℕ → Type 0 = λ x. (tally (p ∷ ps) x Plus ≡ 0) ⊎ (tally (p ∷ ps) x Minus ≡ 0) in
+          let us = follows p ps h in
+          subst P (e .1) (elim (sign-cases (p .sign)) [
+            | inl f ↦ inl (omega (arith, hit-other p (p .place) Plus f, no-other p Plus ps f us))
+            | inr f ↦ inr (omega (arith, hit-other p (p .place) Minus f, no-other p Minus ps f us))
+          ])
+      | inr e ↦
+          elim (lawful-from-steps ps (tail p ps h) x) [
+            | inl f ↦ inl (omega (arith, hit-apart (p .place) x (p .sign) Plus (e .1)))
+            | inr f ↦ inr (omega (arith, hit-apart (p .place) x (p .sign) Minus (e .1)))
+          ]
     ]
 
 -- and back, in a sorted list
@@ -120,11 +122,12 @@ steps-from-lawful ps h l k lt =
     let q = at ps (k + 1) in
     let le = sorted-at ps k h lt in
     elim (alike-cases (p .sign) (q .sign)) [
-      inl e ↦ rw e (omega arith)
-    | inr e ↦ elim (eqb-tells (p .place) (q .place)) [
-        inl f ↦
-          let a = tally-at ps k (omega arith) in
-          let b : 1 ≤ tally ps (p .place) (q .sign) = rw (f .1) (tally-at ps (k + 1) lt) in
-          absurd (both (λ s. tally ps (p .place) s) (p .sign) (q .sign) e a b (l (p .place)))
-      | inr f ↦ rw e (grind arith) ]
+      | inl e ↦ rw e (omega arith)
+      | inr e ↦ elim (eqb-tells (p .place) (q .place)) [
+        | inl f ↦
+            let a = tally-at ps k (omega arith) in
+            let b : 1 ≤ tally ps (p .place) (q .sign) = rw (f .1) (tally-at ps (k + 1) lt) in
+            absurd (both (λ s. tally ps (p .place) s) (p .sign) (q .sign) e a b (l (p .place)))
+        | inr f ↦ rw e (grind arith)
+      ]
     ]

@@ -99,14 +99,16 @@ cutting H (p ∷ ps) a o =
     ⊎-elim
     (λ e.
     let r = cutting H ps (a .1) (o .1) in
-    let i = half-in H 0 p ps e in
-    (suc (r .0), record {
-      size = ap length i ∙ ap suc (r .1 .size);
-      low = i ∙ ap (λ qs. pulse (p .place % 2 ^ H) (p .sign) ∷ qs) (r .1 .low);
-      high = half-out H 1 p ps (λ f. omega arith) ∙ r .1 .high;
-      lows = (e, r .1 .lows);
-      highs = r .1 .highs;
-    }))
+    let i = half-in H 0 p ps e in (
+      suc (r .0),
+      record {
+        size = ap length i ∙ ap suc (r .1 .size);
+        low = i ∙ ap (λ qs. pulse (p .place % 2 ^ H) (p .sign) ∷ qs) (r .1 .low);
+        high = half-out H 1 p ps (λ f. omega arith) ∙ r .1 .high;
+        lows = (e, r .1 .lows);
+        highs = r .1 .highs;
+      },
+    ))
     (λ e.
     let h : 2 ^ H ≤ p .place = ⊎-elim (λ l. absurd (e (div-eq-of-lt l))) (λ l. l) (cases-lt (p .place) (2 ^ H)) in
     let u : InHalf H 1 (p ∷ ps) = (upper H (p .place) (o .0) h, all-upper H (p .place) ps h (o .1) (a .0)) in

@@ -16,7 +16,10 @@ impl Bits {
         ensures value { λ r. ⌜ r .value ≡ self .value * 2 ^ low .count + low .value ⌝ }
         ensures count { λ r. ⌜ r .count ≡ self .count + low .count ⌝ }
     {
-        Bits { value: (self.value << low.count) + low.value, count: self.count + low.count }
+        Bits {
+            value: (self.value << low.count) + low.value,
+            count: self.count + low.count,
+        }
     }
 }
 

@@ -22,11 +22,20 @@ fn pulse_of(octet: u8) -> Pulse
     ensures { λ r. ⌜ r ≡ pulseOf octet ⌝ }
 {
     if octet < 32 {
-        Pulse { place: octet, sign: Sign::Plus }
+        Pulse {
+            place: octet,
+            sign: Sign::Plus,
+        }
     } else if octet < 64 {
-        Pulse { place: octet - 32, sign: Sign::Minus }
+        Pulse {
+            place: octet - 32,
+            sign: Sign::Minus,
+        }
     } else {
-        Pulse { place: octet, sign: Sign::Plus }
+        Pulse {
+            place: octet,
+            sign: Sign::Plus,
+        }
     }
 }
 
@@ -49,7 +58,11 @@ fn refused(refusal: Refusal) -> i32
 fn way(strict: bool) -> Reading
     ensures { λ r. ⌜ r ≡ wayOf strict ⌝ }
 {
-    if strict { Reading::Strict } else { Reading::Open }
+    if strict {
+        Reading::Strict
+    } else {
+        Reading::Open
+    }
 }
 
 /// The pulses of at most six octets.
@@ -108,7 +121,13 @@ fn hand_out(pulses: &[Pulse], out: &mut [u8]) -> i32
 /// [`read_index`] for C, into octets. Answers the number of pulses, or minus
 /// the number of the refusal, which leaves `out` as it was.
 #[unsafe(no_mangle)]
-pub extern "C" fn vilchuqa_read_index(pulses: u32, width: u32, index: u32, strict: bool, out: &mut [u8]) -> i32
+pub extern "C" fn vilchuqa_read_index(
+    pulses: u32,
+    width: u32,
+    index: u32,
+    strict: bool,
+    out: &mut [u8],
+) -> i32
     ensures answer { λ r. ⌜ r ≡ answerOf (handed (length (now (out .entry))) (readIndex (wayOf strict) pulses width index)) ⌝ }
     ensures buffer { λ _. ⌜ now (out .exit) ≡ filledOctets (now (out .entry)) (readIndex (wayOf strict) pulses width index) ⌝ }
 {

@@ -114,7 +114,13 @@ fn read_set(how: Reading, number: usize, width: u32, index: u32) -> Result<[Puls
 }
 
 /// Reads an index into the front of `out`.
-fn read_into(how: Reading, number: usize, width: u32, index: u32, out: &mut [Pulse]) -> Result<usize, Refusal>
+fn read_into(
+    how: Reading,
+    number: usize,
+    width: u32,
+    index: u32,
+    out: &mut [Pulse],
+) -> Result<usize, Refusal>
     ensures answer { λ r. ⌜ r ≡ handed (length (now (out .entry))) (readIndex how number width index) ⌝ }
     ensures buffer { λ _. ⌜ now (out .exit) ≡ filled (now (out .entry)) (readIndex how number width index) ⌝ }
 {
@@ -138,7 +144,13 @@ fn read_into(how: Reading, number: usize, width: u32, index: u32, out: &mut [Pul
 ///
 /// Of three pulses at width 4, 601 reads as `1+ 2+ 3-`, but only openly: their
 /// house index is 4874.
-pub fn read_index(how: Reading, number: usize, width: u32, index: u32, out: &mut [Pulse]) -> Result<usize, Refusal>
+pub fn read_index(
+    how: Reading,
+    number: usize,
+    width: u32,
+    index: u32,
+    out: &mut [Pulse],
+) -> Result<usize, Refusal>
     ensures answer { λ r. ⌜ r ≡ handed (length (now (out .entry))) (readIndex how number width index) ⌝ }
     ensures buffer { λ _. ⌜ now (out .exit) ≡ filled (now (out .entry)) (readIndex how number width index) ⌝ }
     ensures reads_by_the_rules { λ _. ⌜ Reads-by-the-rules how number width index ⌝ }

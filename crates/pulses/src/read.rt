@@ -29,7 +29,10 @@ fn one(width: u32, from: u32, index: u32, out: &mut [Pulse])
     requires { ⌜ width ≤ 5 ⌝ ∗ ⌜ from + 2 ^ width ≤ 2 ^ 8 ⌝ ∗ ⌜ length (now out) ≡ 1 ⌝ }
     ensures { λ _. ⌜ now (out .exit) ≡ up from (one-of width index) ⌝ }
 {
-    out[0] = Pulse { place: (low(index, width) + from) as u8, sign: sign(high(index, width)) };
+    out[0] = Pulse {
+        place: (low(index, width) + from) as u8,
+        sign: sign(high(index, width)),
+    };
 }
 
 /// Two pulses: `sign of a | a | b`. The signs are equal where `a` is not above `b`.
@@ -41,8 +44,14 @@ fn two(width: u32, from: u32, index: u32, out: &mut [Pulse])
     let a = low(high(index, width), width);
     let first = sign(high(index, 2 * width));
     let second = if a <= b { first } else { first.opposite() };
-    out[0] = Pulse { place: (a + from) as u8, sign: first };
-    out[1] = Pulse { place: (b + from) as u8, sign: second };
+    out[0] = Pulse {
+        place: (a + from) as u8,
+        sign: first,
+    };
+    out[1] = Pulse {
+        place: (b + from) as u8,
+        sign: second,
+    };
 }
 
 /// The pulses of an index, as many as `out` has room for: the general call.
@@ -115,7 +124,12 @@ fn five(width: u32, from: u32, index: u32, out: &mut [Pulse])
     ensures { λ _. ⌜ now (out .exit) ≡ up from (five-of width index) ⌝ }
 {
     let h = half(width, from, low(high(index, 5 * width - 1), 1));
-    read(width - 1, h, low(high(index, 2 * width + 1), 3 * width - 2), &mut out[0..3]);
+    read(
+        width - 1,
+        h,
+        low(high(index, 2 * width + 1), 3 * width - 2),
+        &mut out[0..3],
+    );
     read(width, from, low(index, 2 * width + 1), &mut out[3..5]);
 }
 
@@ -145,7 +159,12 @@ fn six(width: u32, from: u32, index: u32, out: &mut [Pulse])
         }
         _ => {
             read(w, from, high(body, 3 * width - 2), &mut out[0..3]);
-            read(w, half(width, from, 1), low(body, 3 * width - 2), &mut out[3..6]);
+            read(
+                w,
+                half(width, from, 1),
+                low(body, 3 * width - 2),
+                &mut out[3..6],
+            );
         }
     }
 }

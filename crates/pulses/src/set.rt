@@ -10,7 +10,10 @@ use refusals::cause::Cause;
 use refusals::refusal::Refusal;
 
 /// What stands behind the pulses of a track: a plus pulse on place 0.
-pub const NONE: Pulse = Pulse { place: 0, sign: Sign::Plus };
+pub const NONE: Pulse = Pulse {
+    place: 0,
+    sign: Sign::Plus,
+};
 
 /// Puts one more pulse among the `n` in front, from the lowest place up.
 fn put_in(row: &mut [Pulse; 6], n: usize, pulse: Pulse)
@@ -65,7 +68,11 @@ fn all_on(width: u32, pulses: &[Pulse]) -> bool
 fn may_follow(low: Pulse, high: Pulse) -> bool
     ensures { λ r. ⌜ Decides r (low .place + apart low high ≤ high .place) ⌝ }
 {
-    if low.sign.alike(high.sign) { low.place <= high.place } else { low.place < high.place }
+    if low.sign.alike(high.sign) {
+        low.place <= high.place
+    } else {
+        low.place < high.place
+    }
 }
 
 /// Whether each of the first `n` may follow the one before.

@@ -42,7 +42,10 @@ fn cut<'a>(width: u32, pulses: &'a [Pulse]) -> Halves<'a>
     ensures sizes { λ r. ⌜ length (now (r .low)) + length (now (r .high)) ≡ length (now (pulses .entry)) ⌝ }
 {
     let n = lower(width, pulses);
-    Halves { low: &pulses[0..n], high: &pulses[n..pulses.len()] }
+    Halves {
+        low: &pulses[0..n],
+        high: &pulses[n..pulses.len()],
+    }
 }
 
 /// The lowest pulses of a half, and what stands before and after them.
@@ -65,7 +68,12 @@ fn choose<'a>(k: usize, width: u32, pulses: &'a [Pulse]) -> Group<'a>
     let n = lower(width, pulses);
     let (half, start) = if k <= n { (0, 0) } else { (1, n) };
     let end = start + k;
-    Group { half, before: &pulses[0..start], taken: &pulses[start..end], after: &pulses[end..pulses.len()] }
+    Group {
+        half,
+        before: &pulses[0..start],
+        taken: &pulses[start..end],
+        after: &pulses[end..pulses.len()],
+    }
 }
 
 /// The one pulse of the two slices.
@@ -105,7 +113,10 @@ fn place(width: u32, p: Pulse) -> Bits
     ensures value { λ r. ⌜ r .value ≡ p .place % 2 ^ width ⌝ }
     ensures count { λ r. ⌜ r .count ≡ width ⌝ }
 {
-    Bits { value: low(u32::from(p.place), width), count: width }
+    Bits {
+        value: low(u32::from(p.place), width),
+        count: width,
+    }
 }
 
 /// One pulse: `sign | place`.
@@ -135,7 +146,11 @@ fn two(width: u32, pulses: &[Pulse]) -> Bits
 {
     let p = pulses[0];
     let q = pulses[1];
-    if p.sign.alike(q.sign) { pair(width, p, q) } else { pair(width, q, p) }
+    if p.sign.alike(q.sign) {
+        pair(width, p, q)
+    } else {
+        pair(width, q, p)
+    }
 }
 
 /// The house index of `n` pulses: the general call.
@@ -165,7 +180,10 @@ fn three(width: u32, pulses: &[Pulse]) -> Bits
     let group = choose(2, width, pulses);
     let pair = index(2, width - 1, group.taken);
     let third = index(1, width, only(group.before, group.after));
-    third.above(Bits { value: group.half, count: 1 }.above(pair))
+    third.above(Bits {
+        value: group.half,
+        count: 1,
+    }.above(pair))
 }
 
 /// Four close pulses: `other two | half | pair in that half`.
@@ -178,7 +196,10 @@ fn close(width: u32, pulses: &[Pulse]) -> Bits
     let others = both(group.before, group.after);
     let pair = index(2, width - 1, group.taken);
     let rest = index(2, width, &others);
-    rest.above(Bits { value: group.half, count: 1 }.above(pair))
+    rest.above(Bits {
+        value: group.half,
+        count: 1,
+    }.above(pair))
 }
 
 /// Four pulses: `pulses in half 0, modulo 4 | body`.
@@ -208,7 +229,10 @@ fn five(width: u32, pulses: &[Pulse]) -> Bits
     let others = both(group.before, group.after);
     let triple = index(3, width - 1, group.taken);
     let rest = index(2, width, &others);
-    Bits { value: group.half, count: 1 }.above(triple.above(rest))
+    Bits {
+        value: group.half,
+        count: 1,
+    }.above(triple.above(rest))
 }
 
 /// The body of six pulses below `c`, the number in the emptier half, and `j`, the fuller half.
@@ -229,12 +253,22 @@ fn six(width: u32, pulses: &[Pulse]) -> Bits
     let w = width - 1;
     let Halves { low, high } = cut(width, pulses);
     match low.len() {
-        0 => uneven(0, 1, width, index(5, w, &high[0..5]).above(index(1, w, &high[5..6]))),
+        0 => uneven(
+            0,
+            1,
+            width,
+            index(5, w, &high[0..5]).above(index(1, w, &high[5..6])),
+        ),
         1 => uneven(1, 1, width, index(5, w, high).above(index(1, w, low))),
         2 => uneven(2, 1, width, index(4, w, high).above(index(2, w, low))),
         3 => Bits { value: 3, count: 2 }.above(index(3, w, low).above(index(3, w, high))),
         4 => uneven(2, 0, width, index(4, w, low).above(index(2, w, high))),
         5 => uneven(1, 0, width, index(5, w, low).above(index(1, w, high))),
-        _ => uneven(0, 0, width, index(5, w, &low[0..5]).above(index(1, w, &low[5..6]))),
+        _ => uneven(
+            0,
+            0,
+            width,
+            index(5, w, &low[0..5]).above(index(1, w, &low[5..6])),
+        ),
     }
 }

@@ -64,9 +64,18 @@ impl Cause {
     {
         match self {
             Cause::CarrierFull | Cause::CellMissing | Cause::BadCell => Layer::Carrier,
-            Cause::WrongNumber | Cause::OffTrack | Cause::BothSigns | Cause::NoSuchIndex | Cause::NotHouseIndex => Layer::Index,
+            Cause::WrongNumber
+            | Cause::OffTrack
+            | Cause::BothSigns
+            | Cause::NoSuchIndex
+            | Cause::NotHouseIndex => Layer::Index,
             Cause::NoSuchMode | Cause::NoSuchField | Cause::ValueTooLarge => Layer::Frame,
-            Cause::WrongLength | Cause::TooManyFrames | Cause::NoSuchFrame | Cause::ModesAstray | Cause::BadFill | Cause::BufferTooShort => Layer::Message,
+            Cause::WrongLength
+            | Cause::TooManyFrames
+            | Cause::NoSuchFrame
+            | Cause::ModesAstray
+            | Cause::BadFill
+            | Cause::BufferTooShort => Layer::Message,
         }
     }
 }

@@ -29,7 +29,12 @@ impl Spot {
     pub fn nowhere() -> Spot
         ensures { λ r. ⌜ r ≡ nowhere ⌝ }
     {
-        Spot { frame: None, subframe: None, track: None, cell: None }
+        Spot {
+            frame: None,
+            subframe: None,
+            track: None,
+            cell: None,
+        }
     }
 }
 
@@ -38,6 +43,9 @@ impl Refusal {
     pub fn because(cause: Cause) -> Refusal
         ensures { λ r. ⌜ r ≡ because cause ⌝ }
     {
-        Refusal { cause, spot: Spot::nowhere() }
+        Refusal {
+            cause,
+            spot: Spot::nowhere(),
+        }
     }
 }

@@ -28,14 +28,14 @@ taken how way n M i k row r e h f o =
 pub hand-out-requires : need.hand-out-requires
 hand-out-requires c κs =
     let f = taken (c .way .result) (wayOf (c .args .strict)) (c .args .pulses) (c .args .width) (c .args .index) (c .in-Ok .number) (c .read-index .last .out) (c .read-index .result)
-        (c .way .ensures) (c .read-index .ensures .answer) (c .read-index .ensures .buffer) (c .in-Ok .is) in
+    (c .way .ensures) (c .read-index .ensures .answer) (c .read-index .ensures .buffer) (c .in-Ok .is) in
     let z : c .in-Ok .number - 0 ≡ c .in-Ok .number = omega arith in
     rw z (f .few, f .on)
 
 pub returns-in-Ok : need.returns-in-Ok
 returns-in-Ok c =
     let f = taken (c .way .result) (wayOf (c .args .strict)) (c .args .pulses) (c .args .width) (c .args .index) (c .in-Ok .number) (c .read-index .last .out) (c .read-index .result)
-        (c .way .ensures) (c .read-index .ensures .answer) (c .read-index .ensures .buffer) (c .in-Ok .is) in
+    (c .way .ensures) (c .read-index .ensures .answer) (c .read-index .ensures .buffer) (c .in-Ok .is) in
     let z : c .in-Ok .number - 0 ≡ c .in-Ok .number = omega arith in
     let s : SFits w32 (c .hand-out .result) = search needs in
     record {

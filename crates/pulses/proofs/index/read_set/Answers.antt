@@ -26,12 +26,12 @@ bound b k e l = one-shl b 32 l ∙ ap (λ z. 2 ^ z) e
 pub returns-then-not-used : need.returns-then-not-used
 returns-then-not-used c =
     elim (c .then-not-used .came) [
-      then-not-used·by·then-not-used w ↦
-        read-unused (c .args .how) (c .args .number) (c .args .width) (c .args .index) (sym (c .used .ensures) ∙ w .if-not-used .taken) ∙ ap Err (sym (c .because .ensures))
-    | then-not-used·by·else-not-used·then-index-bits w ↦
-        read-past (c .args .how) (c .args .number) (c .args .width) (c .args .index)
-            (omega (arith, w .if-index-bits .taken, bound (w .bits .result) (bits (c .args .number) (c .args .width)) (w .bits .ensures .is) (w .bits .ensures .few)))
-        ∙ ap Err (sym (c .because .ensures))
+      | then-not-used·by·then-not-used w ↦
+          read-unused (c .args .how) (c .args .number) (c .args .width) (c .args .index) (sym (c .used .ensures) ∙ w .if-not-used .taken) ∙ ap Err (sym (c .because .ensures))
+      | then-not-used·by·else-not-used·then-index-bits w ↦
+          read-past (c .args .how) (c .args .number) (c .args .width) (c .args .index)
+          (omega (arith, w .if-index-bits .taken, bound (w .bits .result) (bits (c .args .number) (c .args .width)) (w .bits .ensures .is) (w .bits .ensures .few)))
+          ∙ ap Err (sym (c .because .ensures))
     ]
 
 below : (n M i b : ℕ) → b ≡ bits n M → b < 32 → i < 1 * 2 ^ b % 2 ^ 32 → i < 2 ^ bits n M

@@ -19,8 +19,8 @@ returns c =
     let s = c .sign-first .result in
     let second : c .if-a-b .second ≡ cond (leb a b) s (opposite s) =
     elim (c .if-a-b .came) [
-      then-a-b w ↦ let e = le-leb a b (w .if-a-b .taken) in rw e (w .second-is)
-    | else-a-b w ↦ let e = lt-leb a b (w .if-a-b .left) in rw e (w .second-is ∙ w .opposite-second .ensures)
+      | then-a-b w ↦ let e = le-leb a b (w .if-a-b .taken) in rw e (w .second-is)
+      | else-a-b w ↦ let e = lt-leb a b (w .if-a-b .left) in rw e (w .second-is ∙ w .opposite-second .ensures)
     ] in
     let ea = c .low-a .ensures .is in
     let eb = c .low-b .ensures .is in

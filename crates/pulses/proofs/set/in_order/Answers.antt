@@ -10,11 +10,12 @@ use Rattle.pulses.proofs.set.in_order.Needs as need
 pub loop-p-again : need.loop-p-again
 loop-p-again c =
     let ps = c .args .pulses .now in
-    let i = c .loop-p .p-index in
-    (omega arith,
-     c .loop-p .inv .1 ∙ line-up-step ps (c .loop-p .row) i (at ps i) (c .loop-p-test .taken) refl
-       ∙ ap (λ n. line-up (drop (i + 1) ps) (i + 1) (put n (at ps i) (c .loop-p .row))) (sym (c .loop-p .inv .0))
-       ∙ ap (λ r. line-up (drop (i + 1) ps) (i + 1) r) (sym (c .put-in .ensures)))
+    let i = c .loop-p .p-index in (
+      omega arith,
+      c .loop-p .inv .1 ∙ line-up-step ps (c .loop-p .row) i (at ps i) (c .loop-p-test .taken) refl
+          ∙ ap (λ n. line-up (drop (i + 1) ps) (i + 1) (put n (at ps i) (c .loop-p .row))) (sym (c .loop-p .inv .0))
+          ∙ ap (λ r. line-up (drop (i + 1) ps) (i + 1) r) (sym (c .put-in .ensures)),
+    )
 
 pub returns : need.returns
 returns c = sym (c .loop-p .inv .1 ∙ line-up-ends (c .args .pulses .now) (c .loop-p .row) (c .loop-p .p-index) (c .loop-p .p-index) (c .loop-p-test .left))

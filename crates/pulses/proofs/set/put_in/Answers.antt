@@ -14,10 +14,10 @@ loop-i-again c =
     let row = c .loop-i .row in
     let i = c .loop-i .i in
     elim (c .if-carried-here .came) [
-      then-carried-here w ↦
-        (c .if-carried-here .array-long, c .loop-i .inv .1 ∙ put-swaps row _ (c .args .n) i (c .loop-i .carried) _ (omega arith) (omega arith) (omega arith) (w .row-is) (w .carried-is))
-    | else-carried-here w ↦
-        (c .if-carried-here .array-long, c .loop-i .inv .1 ∙ put-stays row _ (c .args .n) i (c .loop-i .carried) _ (omega arith) (omega arith) (omega arith) (w .row-is) (w .carried-is))
+      | then-carried-here w ↦
+          (c .if-carried-here .array-long, c .loop-i .inv .1 ∙ put-swaps row _ (c .args .n) i (c .loop-i .carried) _ (omega arith) (omega arith) (omega arith) (w .row-is) (w .carried-is))
+      | else-carried-here w ↦
+          (c .if-carried-here .array-long, c .loop-i .inv .1 ∙ put-stays row _ (c .args .n) i (c .loop-i .carried) _ (omega arith) (omega arith) (omega arith) (w .row-is) (w .carried-is))
     ]
 
 pub returns : need.returns

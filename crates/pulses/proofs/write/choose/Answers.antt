@@ -17,8 +17,8 @@ returns c =
     let s = c .if-k-n .half .1 in
     let way : ((k ≤ n) × ((h ≡ 0) × (s ≡ 0))) ⊎ ((n < k) × ((h ≡ 1) × (s ≡ n))) =
     elim (c .if-k-n .came) [
-      then-k-n w ↦ inl (w .if-k-n .taken, (ap (λ (z : ℕ × ℕ). z .0) (w .half-is), ap (λ (z : ℕ × ℕ). z .1) (w .half-is)))
-    | else-k-n w ↦ inr (w .if-k-n .left, (ap (λ (z : ℕ × ℕ). z .0) (w .half-is), ap (λ (z : ℕ × ℕ). z .1) (w .half-is)))
+      | then-k-n w ↦ inl (w .if-k-n .taken, (ap (λ (z : ℕ × ℕ). z .0) (w .half-is), ap (λ (z : ℕ × ℕ). z .1) (w .half-is)))
+      | else-k-n w ↦ inr (w .if-k-n .left, (ap (λ (z : ℕ × ℕ). z .0) (w .half-is), ap (λ (z : ℕ × ℕ). z .1) (w .half-is)))
     ] in
     let within : s + k ≤ length ps = ⊎-elim (λ t. omega (arith, t .0, t .1 .1)) (λ t. omega (arith, t .0, t .1 .1)) way in
     let a : s - 0 ≡ s = omega arith in

@@ -22,8 +22,8 @@ loop-p-again c =
     let place : c .high .result ≡ at ps i .place % 2 ^ M / 2 ^ (M - 1) =
     c .high .ensures ∙ ap (λ z. z / 2 ^ (M - 1)) (c .low .ensures .is ∙ ap (λ z. z % 2 ^ M) (c .from .ensures)) in
     elim (c .if-high-eq0 .came) [
-      then-high-eq0 w ↦ (w .n-is ∙ lows-more M (c .loop-p .n) i ps (c .loop-p-test .taken) (c .loop-p .inv .0) (sym place ∙ w .if-high-eq0 .taken), omega (arith, w .n-is))
-    | else-high-eq0 w ↦ (w .n-is ∙ lows-stay M (c .loop-p .n) i ps (c .loop-p-test .taken) (c .loop-p .inv .0) (λ e. w .if-high-eq0 .left (place ∙ e)), omega (arith, w .n-is))
+      | then-high-eq0 w ↦ (w .n-is ∙ lows-more M (c .loop-p .n) i ps (c .loop-p-test .taken) (c .loop-p .inv .0) (sym place ∙ w .if-high-eq0 .taken), omega (arith, w .n-is))
+      | else-high-eq0 w ↦ (w .n-is ∙ lows-stay M (c .loop-p .n) i ps (c .loop-p-test .taken) (c .loop-p .inv .0) (λ e. w .if-high-eq0 .left (place ∙ e)), omega (arith, w .n-is))
     ]
 
 pub returns : need.returns

@@ -1,0 +1,12 @@
+pub mod Tables
+pub mod OctetCells
+pub mod WordCells
+pub mod Rows
+pub mod BitValues
+pub mod GoodCells
+pub mod Spelt
+pub mod FieldCells
+pub mod Runs
+pub mod Padding
+pub mod Checks
+pub mod Lent

@@ -1,0 +1,6 @@
+use mathlib.Core.Path.{refl, sym}
+use Rattle.carriers.proofs.Tables.{table-length}
+use Rattle.carriers.proofs.memory.WordWriter.count.Needs as need
+
+pub returns : need.returns
+returns c = record { used = refl; cells = sym (table-length _ _) }

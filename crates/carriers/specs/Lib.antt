@@ -1,0 +1,13 @@
+pub mod Bits
+pub mod Cells
+pub mod Reading
+pub mod Writing
+pub mod Octets
+pub mod Words
+pub mod WithBit
+pub mod Fields
+pub mod FieldReading
+pub mod ReadingLaws
+pub mod WritingLaws
+pub mod Copying
+pub mod Alike
