@@ -1,21 +1,16 @@
 -- What the order keeps and makes: the same pulses, sorted, and nothing behind them. And what neighbours tell of the signs.
-use mathlib.Core.Path.{_≡_, refl, sym, ap, subst, _∙_}
-use mathlib.Core.List.{List, [], _∷_, _++_}
-use mathlib.Core.Bool.{cond}
-use mathlib.Core.Logic.{_⊎_, inl, inr}
-use Prim.Native.Nat.{ℕ, zero, suc, _+_, _^_, _<_, _≤_}
-use native.Mathlib.Nat.{add-zero, zero-add, add-suc, suc-add}
-use native.Mathlib.Numerals.{add-one}
+use mathlib.Core.Path.{_≡_, refl, sym, ap, _∙_}
+use mathlib.Core.List.{List, [], _∷_}
+use mathlib.Core.Logic.{inl, inr}
+use Prim.Native.Nat.{ℕ, zero, suc, _+_, _<_, _≤_}
+use native.Mathlib.Nat.{add-zero}
 use native.Mathlib.Omega.{arith}
-use lib.Dec.{leb, eqb}
-use lib.ListN.{length, getD, take, replicate}
+use lib.ListN.{length, take}
 use Rattle.std.specs.shelf.Lists.{All}
-use Rattle.std.proofs.shelf.Ways.{tells, leb-tells, eqb-tells}
+use Rattle.std.proofs.shelf.Ways.{leb-tells}
 use Rattle.pulses.specs.declared.pulse.Pulse.{Pulse}
 use Rattle.pulses.specs.declared.pulse.Sign.{Sign}
-use Rattle.pulses.specs.declared.pulse.Sign.the-variants.{Plus, Minus}
-use Rattle.pulses.specs.Sets.{none, at, apart}
-use Rattle.pulses.specs.Pulses.{hit, tally, Same, Lawful, On, Sorted}
+use Rattle.pulses.specs.Pulses.{hit, tally, Sorted}
 use Rattle.pulses.specs.Sets.{put, line-up}
 
 -- by the two ways of a step
@@ -34,14 +29,6 @@ put-length n p [] = refl
 put-length zero p (q ∷ qs) = refl
 put-length (suc n) p (q ∷ qs) =
     put-cases (λ r. length r ≡ suc (length qs)) n p q qs (λ _. ap suc (put-length n q qs)) (λ _. ap suc (put-length n p qs))
-
-pub put-past : (n k : ℕ) (p : Pulse) (row : List Pulse) → n < k → at (put n p row) k ≡ at row k
-unfolding put
-put-past n k p [] h = refl
-put-past n zero p (q ∷ qs) h = absurd (omega arith)
-put-past zero (suc k) p (q ∷ qs) h = refl
-put-past (suc n) (suc k) p (q ∷ qs) h =
-    put-cases (λ r. at r (suc k) ≡ at qs k) n p q qs (λ _. put-past n k q qs (omega arith)) (λ _. put-past n k p qs (omega arith))
 
 pub put-all : (P : Pulse → Type 0) (n : ℕ) (p : Pulse) (row : List Pulse) → n < length row → P p → All P (take n row) → All P (take (suc n) (put n p row))
 unfolding put
@@ -80,11 +67,6 @@ pub line-up-length : (ps : List Pulse) (n : ℕ) (row : List Pulse) → length (
 unfolding line-up
 line-up-length [] n row = refl
 line-up-length (p ∷ ps) n row = line-up-length ps (suc n) (put n p row) ∙ put-length n p row
-
-pub line-up-past : (ps : List Pulse) (n k : ℕ) (row : List Pulse) → n + length ps ≤ k → at (line-up ps n row) k ≡ at row k
-unfolding line-up
-line-up-past [] n k row h = refl
-line-up-past (p ∷ ps) n k row h = line-up-past ps (suc n) k (put n p row) (omega arith) ∙ put-past n k p row (omega arith)
 
 pub line-up-all : (P : Pulse → Type 0) (ps : List Pulse) (n : ℕ) (row : List Pulse) → n + length ps ≤ length row → All P ps → All P (take n row)
     → All P (take (n + length ps) (line-up ps n row))

@@ -1,27 +1,22 @@
 -- The answers of the index calls at the border to C.
 use mathlib.Core.Path.{_≡_, refl, sym, ap, ap₂, subst, _∙_}
 use mathlib.Core.List.{List, [], _∷_, _++_, map, append-assoc}
-use mathlib.Core.Bool.{Bool, true, false, cond, _&&_, _||_}
+use mathlib.Core.Bool.{true}
 use mathlib.Core.Logic.{_⊎_, inl, inr, ⊎-elim}
-use Prim.Native.Nat.{ℕ, zero, suc, _+_, _-_, _*_, _/_, _%_, _^_, _≤_, _<_}
+use Prim.Native.Nat.{ℕ, zero, suc, _+_, _*_, _/_, _%_, _^_, _≤_, _<_}
 use native.Mathlib.Omega.{arith}
-use native.Mathlib.Nat.{mod-eq-of-lt}
-use native.Mathlib.Numerals.{add-one}
-use lib.Dec.{eqb, leb, ltb}
-use lib.IntN.{pos, negℤ}
+use lib.Dec.{leb, ltb}
 use lib.ListN.{length, take, drop, getD, set, replicate}
 use lib.Pow.{pow-mono}
 use Rattle.std.specs.declared.result.Result.{Result}
 use Rattle.std.specs.declared.result.Result.the-variants.{Ok, Err}
-use Rattle.std.specs.shelf.Lists.{All}
 use Rattle.std.proofs.shelf.Bits.{div-mul-add, mod-mul-add}
-use Rattle.std.proofs.shelf.Lists.{length-map, length-take, take-more, take-more-set, drop-more, take-all, take-at, set-at, map-append}
-use Rattle.std.proofs.shelf.Elements.{all-getD, all-weaker}
-use Rattle.std.proofs.shelf.Tests.{le-leb, lt-leb, leb-true, leb-false, lt-ltb, le-ltb, cond-true, cond-false, cases-bool, cases-lt}
+use Rattle.std.proofs.shelf.Lists.{length-map, length-take, take-more, take-more-set, drop-more, take-at, set-at, map-append}
+use Rattle.std.proofs.shelf.Elements.{all-weaker}
+use Rattle.std.proofs.shelf.Tests.{le-leb, lt-leb, leb-true, lt-ltb, le-ltb, cond-true, cond-false, cases-bool, cases-lt}
 use Rattle.std.proofs.shelf.Ways.{tells}
 use Rattle.refusals.specs.declared.cause.Cause.the-variants.{WrongNumber, BufferTooShort}
 use Rattle.refusals.specs.declared.refusal.Refusal.{Refusal}
-use Rattle.refusals.specs.Refusals.{numberOf}
 use Rattle.refusals.specs.Spots.{because}
 use Rattle.pulses.specs.declared.pulse.Pulse.{Pulse}
 use Rattle.pulses.specs.declared.pulse.Sign.{Sign}
@@ -30,14 +25,13 @@ use Rattle.pulses.specs.declared.index.Reading.{Reading}
 use Rattle.pulses.specs.Pulses.{pulse, bit, On, sort}
 use Rattle.pulses.specs.Rules.{bits}
 use Rattle.pulses.specs.Reading.{sign-of, pulses-of}
-use Rattle.pulses.specs.House.{house}
 use Rattle.pulses.specs.Sets.{none, at}
 use Rattle.pulses.specs.Calls.{used, writeIndex, readIndex, handed, filled}
-use Rattle.pulses.specs.Octets.{octetOf, pulseOf, answerOf, filledOctets, Octet-tells-the-pulse, Off-every-track}
+use Rattle.pulses.specs.Octets.{octetOf, pulseOf, filledOctets, Octet-tells-the-pulse, Off-every-track}
 use Rattle.pulses.proofs.Canon.{sorted-sort, same-sort}
 use Rattle.pulses.proofs.Unique.{all-same, group-same, length-sort}
 use Rattle.pulses.proofs.Indices.{round-trip}
-use Rattle.pulses.proofs.CallLaws.{never, ok-is, in-use, wrote, write-unused, WasRead, was-read, on-read}
+use Rattle.pulses.proofs.CallLaws.{never, ok-is, in-use, wrote, write-unused, was-read, on-read}
 use Rattle.pulses.proofs.Rules.{read-size}
 
 -- octets and pulses

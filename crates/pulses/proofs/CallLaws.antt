@@ -1,17 +1,17 @@
 -- What the answers of the index calls mean by the rules.
 use mathlib.Core.Path.{_≡_, refl, sym, ap, ap₂, subst, _∙_}
-use mathlib.Core.List.{List, [], _∷_, _++_, map}
-use mathlib.Core.Bool.{Bool, true, false, cond, _&&_, _||_}
-use mathlib.Core.Logic.{_⊎_, inl, inr, ⊎-elim}
-use Prim.Native.Nat.{ℕ, _+_, _%_, _^_, _≤_, _<_}
+use mathlib.Core.List.{List, [], _∷_}
+use mathlib.Core.Bool.{Bool, true, false, cond, _&&_}
+use mathlib.Core.Logic.{⊎-elim}
+use Prim.Native.Nat.{ℕ, _+_, _^_, _≤_, _<_}
 use native.Mathlib.Omega.{arith}
 use native.Mathlib.Nat.{mod-eq-of-lt}
-use lib.Dec.{eqb, leb, ltb}
+use lib.Dec.{eqb}
 use lib.ListN.{length, take}
 use Rattle.std.specs.declared.result.Result.{Result}
 use Rattle.std.specs.declared.result.Result.the-variants.{Ok, Err}
 use Rattle.std.specs.Vec.{made}
-use Rattle.std.proofs.shelf.Tests.{eqb-true, eq-eqb, leb-true, ltb-true, lt-ltb, le-ltb, cases-bool, cases-lt, cases-eq, ne-eqb, true≢false, cond-true, cond-false}
+use Rattle.std.proofs.shelf.Tests.{eqb-true, eq-eqb, lt-ltb, le-ltb, cases-bool, cases-lt, cond-true, cond-false}
 use Rattle.std.proofs.shelf.Lists.{take-at}
 use Rattle.std.proofs.shelf.Ways.{tells}
 use Rattle.refusals.specs.declared.cause.Cause.the-variants.{OffTrack, BothSigns, WrongNumber, NoSuchIndex, NotHouseIndex}
@@ -28,12 +28,12 @@ use Rattle.pulses.specs.House.{house}
 use Rattle.pulses.specs.Sets.{on-track, one-signed, checked, padded, mapOk, trackSet}
 use Rattle.pulses.specs.Within.{down}
 use Rattle.pulses.specs.Laws.{Fits}
-use Rattle.pulses.specs.Calls.{used, choice, writeIndex, accepts, kept, readIndex, Exactly, Reads-by-the-rules, Has-one-set, Every-number-has-one-set, Strict-is-open, Accepts-exactly-what-is-written, Only-house-index, Gives-the-only-house-index, Whatever-the-sequence, Is-read-again, Amplitudes-tell-the-set}
-use Rattle.pulses.proofs.Tallies.{same-refl, same-sym, same-trans, same-size, lawful-same}
+use Rattle.pulses.specs.Calls.{used, choice, writeIndex, accepts, kept, readIndex, Reads-by-the-rules, Every-number-has-one-set, Strict-is-open, Accepts-exactly-what-is-written, Only-house-index, Gives-the-only-house-index, Whatever-the-sequence, Is-read-again, Amplitudes-tell-the-set}
+use Rattle.pulses.proofs.Tallies.{same-refl, same-sym, lawful-same}
 use Rattle.pulses.proofs.Canon.{same-sort, sorted-sort, sort-is, same-from-amplitudes}
 use Rattle.pulses.proofs.Unique.{all-same, sort-same, group-same, length-sort}
-use Rattle.pulses.proofs.Checked.{on-from-test, lawful-from-test, checked-ok, checked-both, set-is}
-use Rattle.pulses.proofs.Indices.{reading-is-right, every-number-reads, house-follows, house-alone, round-trip, house-tells-apart}
+use Rattle.pulses.proofs.Checked.{on-from-test, lawful-from-test, checked-ok, set-is}
+use Rattle.pulses.proofs.Indices.{reading-is-right, every-number-reads, house-follows, house-alone, house-tells-apart}
 use Rattle.pulses.proofs.Rules.{index-same, index-on, read-size}
 
 -- the pairs of number and width that modes use

@@ -1,19 +1,18 @@
 -- A lawful set has one sorted list, and its amplitudes say which.
 use mathlib.Core.Path.{_≡_, refl, sym, ap, ap₂, subst, _∙_}
-use mathlib.Core.List.{List, [], _∷_, _++_}
-use mathlib.Core.Bool.{true, cond, _&&_}
+use mathlib.Core.List.{List, [], _∷_}
 use Rattle.pulses.specs.declared.pulse.Sign.{Sign}
 use Rattle.pulses.specs.declared.pulse.Sign.the-variants.{Plus, Minus}
-use mathlib.Core.Logic.{_⊎_, inl, inr, ⊎-elim}
-use Prim.Native.Nat.{ℕ, zero, suc, _+_, _-_, _≤_, _<_}
+use mathlib.Core.Logic.{inl, inr, ⊎-elim}
+use Prim.Native.Nat.{ℕ, _≤_, _<_}
 use native.Mathlib.Omega.{arith}
-use lib.Dec.{eqb, leb}
+use lib.Dec.{leb}
 use Rattle.std.specs.shelf.Lists.{All}
-use Rattle.std.proofs.shelf.Tests.{eq-eqb, cases-eq, leb-true, leb-false, cond-both}
+use Rattle.std.proofs.shelf.Tests.{cases-eq, leb-true, leb-false, cond-both}
 use Rattle.std.proofs.shelf.Elements.{all-weaker}
 use Rattle.pulses.specs.declared.pulse.Pulse.{Pulse}
 use Rattle.pulses.specs.Pulses.{pulse, hit, tally, Same, Lawful, Sorted, Equal-amplitudes, insert, sort}
-use Rattle.pulses.proofs.Tallies.{hit-self, hit-apart, lawful-same, same-trans}
+use Rattle.pulses.proofs.Tallies.{hit-self, hit-apart}
 
 -- where every place is at least m, a pulse that is there is at m or above
 least : (m : ℕ) (ps : List Pulse) (x : ℕ) (s : Sign) → All (λ q. m ≤ q .place) ps → 0 < tally ps x s → m ≤ x

@@ -1,30 +1,28 @@
 -- What the questions to a track's pulses tell, and what stands in a row put in order.
 use mathlib.Core.Path.{_≡_, refl, sym, ap, ap₂, subst, _∙_}
 use mathlib.Core.List.{List, [], _∷_, _++_}
-use mathlib.Core.Bool.{Bool, true, false, cond, _&&_}
+use mathlib.Core.Bool.{Bool, true, false, _&&_}
 use mathlib.Core.Logic.{_⊎_, inl, inr, ⊎-elim}
 use Prim.Native.Nat.{ℕ, zero, suc, _+_, _-_, _^_, _<_, _≤_}
 use native.Mathlib.Nat.{zero-add}
 use native.Mathlib.Omega.{arith}
-use lib.Dec.{eqb, leb, ltb}
-use lib.ListN.{length, getD, take, drop, replicate}
-use Rattle.std.specs.declared.result.Result.{Result}
+use lib.Dec.{eqb, leb}
+use lib.ListN.{length, take, drop, replicate}
 use Rattle.std.specs.declared.result.Result.the-variants.{Ok, Err}
 use Rattle.std.specs.shelf.Lists.{All}
 use Rattle.std.proofs.shelf.Lists.{length-take, getD-take, take-append-drop, drop-drop, drop-replicate}
 use Rattle.std.proofs.shelf.Elements.{all-getD, all-from-getD}
-use Rattle.std.proofs.shelf.Tests.{leb-true, le-leb, ltb-true, lt-ltb, eqb-true, eq-eqb, ne-eqb, cases-eq, cases-lt, cases-bool, cond-both, true≢false}
+use Rattle.std.proofs.shelf.Tests.{leb-true, le-leb, ltb-true, lt-ltb, eqb-true, eq-eqb, cases-lt, cond-both, true≢false}
 use Rattle.refusals.specs.declared.cause.Cause.the-variants.{WrongNumber, OffTrack, BothSigns}
-use Rattle.refusals.specs.declared.refusal.Refusal.{Refusal}
 use Rattle.refusals.specs.Spots.{because}
 use Rattle.pulses.specs.declared.pulse.Pulse.{Pulse}
 use Rattle.pulses.specs.declared.pulse.Sign.{Sign}
 use Rattle.pulses.specs.declared.pulse.Sign.the-variants.{Plus, Minus}
-use Rattle.pulses.specs.Pulses.{alike, opposite, pulse, hit, tally, Same, Lawful, On, Sorted, sort}
+use Rattle.pulses.specs.Pulses.{opposite, tally, Same, Lawful, On, Sorted, sort}
 use Rattle.pulses.specs.Sets.{every, on-track, one-signed, checked, none, at, padded, mapOk, trackSet, put, line-up, apart}
 use Rattle.pulses.proofs.Tallies.{hit-self, hit-cases, lawful-same, same-sym}
-use Rattle.pulses.proofs.Canon.{sort-is, same-sort}
-use Rattle.pulses.proofs.Arranged.{line-up-length, line-up-all, line-up-sorted, line-up-tally, put-length}
+use Rattle.pulses.proofs.Canon.{sort-is}
+use Rattle.pulses.proofs.Arranged.{line-up-length, line-up-sorted, line-up-tally}
 use Rattle.pulses.proofs.Signs.{Steps, lawful-from-steps, steps-from-lawful}
 
 -- a test of every element

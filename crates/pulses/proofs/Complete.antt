@@ -1,28 +1,23 @@
 -- Every number in bounds is the index of what is read from it.
-use mathlib.Core.Path.{_≡_, refl, sym, ap, ap₂, subst, _∙_}
-use mathlib.Core.List.{List, [], _∷_, _++_}
+use mathlib.Core.Path.{_≡_, refl, ap, subst, _∙_}
+use mathlib.Core.List.{_++_}
 use Rattle.pulses.specs.declared.pulse.Sign.{Sign}
-use mathlib.Core.Logic.{_⊎_, inl, inr, ⊎-elim}
+use mathlib.Core.Logic.{⊎-elim}
 use Prim.Native.Nat.{ℕ, zero, suc, _+_, _-_, _*_, _/_, _%_, _^_, _≤_, _<_}
 use native.Mathlib.Omega.{arith}
 use native.Mathlib.Nat.{mod-eq-of-lt}
-use lib.Dec.{leb}
-use Rattle.std.proofs.shelf.Tests.{cases-lt, le-leb, lt-leb}
-use Rattle.pulses.specs.declared.pulse.Pulse.{Pulse}
-use Rattle.pulses.specs.Pulses.{pulse, bit, tally, Same, up}
+use Rattle.std.proofs.shelf.Tests.{cases-lt}
+use Rattle.pulses.specs.Pulses.{bit, up}
 use Rattle.pulses.specs.Rules.{Choice, One, Two, Three, Close, Four, Five, Six}
 use Rattle.pulses.specs.Reading.{sign-of, one-of, pair-of, two-of, three-of, close-of, four-of, five-of, six-of, four-by, six-by, six-uneven}
-use Rattle.pulses.proofs.Cuts.{widen, Split2, split2, Split3, split3}
-use Rattle.pulses.proofs.Tallies.{same-refl}
+use Rattle.pulses.proofs.Cuts.{split2, split3}
+use Rattle.pulses.proofs.Tallies.{same-from, same-refl}
 use Rattle.pulses.proofs.ReadBack.{pair-rising, pair-falling}
 
 bit-sign : (n : ℕ) → n < 2 → bit (sign-of n) ≡ n
 bit-sign zero h = refl
 bit-sign (suc zero) h = refl
 bit-sign (suc (suc n)) h = absurd (omega arith)
-
-same-from : (ps qs : List Pulse) → ps ≡ qs → Same ps qs
-same-from ps qs e x s = ap (λ z. tally z x s) e
 
 pub one-every : (M b i : ℕ) → b ≡ M + 1 → i < 2 ^ b → One M (one-of M i) i
 unfolding one-of

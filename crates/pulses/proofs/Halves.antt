@@ -3,7 +3,7 @@ use mathlib.Core.Path.{_≡_, refl, sym, ap, ap₂, subst, _∙_}
 use mathlib.Core.List.{List, [], _∷_, _++_, map}
 use mathlib.Core.Bool.{cond}
 use Rattle.pulses.specs.declared.pulse.Sign.{Sign}
-use mathlib.Core.Logic.{_⊎_, inl, inr, ⊎-elim}
+use mathlib.Core.Logic.{⊎-elim}
 use Prim.Native.Nat.{ℕ, zero, suc, _+_, _-_, _*_, _/_, _%_, _^_, _≤_, _<_}
 use native.Mathlib.Omega.{arith}
 use lib.Dec.{eqb, leb}
@@ -14,11 +14,11 @@ use Rattle.std.proofs.shelf.Bits.{pow-pos, mod-below, div-below, div-add-mod', 
 use Rattle.std.proofs.shelf.Lists.{length-map, length-append, length-take, length-drop, take-append-drop, map-append, append-nil}
 use Rattle.std.proofs.shelf.Elements.{all-append, all-take, all-drop, all-map, all-weaker, kept-by-append}
 use Rattle.pulses.specs.declared.pulse.Pulse.{Pulse}
-use Rattle.pulses.specs.Pulses.{pulse, hit, tally, Same, Lawful, On, Sorted, up, half, Group, opposite}
+use Rattle.pulses.specs.Pulses.{pulse, hit, tally, Same, Lawful, On, Sorted, up, half, Group}
 use Rattle.pulses.specs.House.{fuller, others}
 use Rattle.pulses.specs.Rules.{Choice, Lowest, Lower-first}
 use Rattle.pulses.proofs.Cuts.{cut-below}
-use Rattle.pulses.proofs.Tallies.{same-trans, same-append, same-swap, same-up, same-refl, same-sym, tally-append, tally-up, hit-place, lawful-same, lawful-left, lawful-right, lawful-down}
+use Rattle.pulses.proofs.Tallies.{same-from, tally-append, hit-place, lawful-same, lawful-left, lawful-right, lawful-down}
 
 pub half-none : (H h : ℕ) → half H h [] ≡ []
 unfolding half
@@ -133,9 +133,6 @@ halves H h n ps b g =
       same = r .same;
       long = r .long ∙ g .size;
     }
-
-same-from : (ps qs : List Pulse) → ps ≡ qs → Same ps qs
-same-from ps qs e x s = ap (λ z. tally z x s) e
 
 pub up-parts : (n k : ℕ) (ps : List Pulse) → Same (up n ps) (up n (take k ps) ++ up n (drop k ps))
 up-parts n k ps = same-from _ _ (ap (up n) (sym (take-append-drop k ps)) ∙ up-append n (take k ps) (drop k ps))
@@ -271,13 +268,6 @@ half-others H h k ps b =
     ∙ ap₂ (λ y z. y ++ z) (half-up H h (drop k (half H h ps)) (all-drop _ k _ (on-half H h ps)))
     (half-up-other H h (1 - h) (half H (1 - h) ps) (λ e. omega arith) (on-half H (1 - h) ps))
     ∙ append-nil (drop k (half H h ps))
-
-pub other-half-others : (H h k : ℕ) (ps : List Pulse) → h < 2 → half H (1 - h) (others k H h ps) ≡ half H (1 - h) ps
-unfolding others
-other-half-others H h k ps b =
-    half-append H (1 - h) _ _
-    ∙ ap₂ (λ y z. y ++ z) (half-up-other H (1 - h) h (drop k (half H h ps)) (λ e. omega arith) (all-drop _ k _ (on-half H h ps)))
-    (half-up H (1 - h) (half H (1 - h) ps) (on-half H (1 - h) ps))
 
 pub takes-lowest : (H h k : ℕ) (ps : List Pulse) → h < 2 → Sorted ps → Lowest Choice.house (take k (half H h ps)) (half H h (others k H h ps))
 takes-lowest H h k ps b a =

@@ -1,22 +1,22 @@
 -- The house's index of a group is an index of it by the rules.
-use mathlib.Core.Path.{_≡_, refl, sym, ap, ap₂, subst, _∙_}
+use mathlib.Core.Path.{_≡_, refl, sym, ap, _∙_}
 use mathlib.Core.List.{List, [], _∷_, _++_}
-use mathlib.Core.Bool.{true, cond, _&&_}
 use Rattle.pulses.specs.declared.pulse.Sign.{Sign}
 use Rattle.pulses.specs.declared.pulse.Sign.the-variants.{Plus, Minus}
-use mathlib.Core.Logic.{_⊎_, inl, inr, ⊎-elim}
-use Prim.Native.Nat.{ℕ, zero, suc, _+_, _-_, _*_, _/_, _%_, _^_, _≤_, _<_}
+use mathlib.Core.Logic.{⊎-elim}
+use Prim.Native.Nat.{ℕ, zero, suc, _-_, _*_, _^_, _≤_, _<_}
 use native.Mathlib.Omega.{arith}
-use lib.Dec.{eqb, leb}
+use lib.Dec.{leb}
 use lib.ListN.{length, take, drop}
-use Rattle.std.proofs.shelf.Tests.{eq-eqb, leb-true, leb-false, cond-both}
+use Rattle.std.proofs.shelf.Tests.{leb-true, leb-false, cond-both}
 use Rattle.std.proofs.shelf.Lists.{nil-from-length}
 use Rattle.pulses.specs.declared.pulse.Pulse.{Pulse}
-use Rattle.pulses.specs.Pulses.{pulse, bit, hit, tally, Same, Lawful, On, Sorted, up, half, Group, opposite}
+use Rattle.pulses.specs.Pulses.{pulse, hit, tally, Same, Lawful, Sorted, up, half, Group, opposite}
 use Rattle.pulses.specs.Rules.{Choice, One, Two, Three, Close, Four, Five, Six}
 use Rattle.pulses.specs.House.{one-house, two-places, two-rising, two-house, fuller, others, three-by, three-house, close-by, close-house, four-halves, four-house, five-by, five-house, six-halves, six-house}
-use Rattle.pulses.proofs.Tallies.{hit-self, same-trans, same-append, same-swap, same-up, same-refl, same-sym, up-zero, tally-append, lawful-same}
-use Rattle.pulses.proofs.Halves.{Halves, halves, Parted, parted, Full, full, group-take, group-drop, up-parts, takes-lowest, takes-lower, sorted-half, sorted-take, lowest-first}
+use Rattle.pulses.proofs.Cuts.{zero-or-one}
+use Rattle.pulses.proofs.Tallies.{up-by, hit-self, same-trans, same-append, same-refl, same-sym, up-zero, tally-append, lawful-same}
+use Rattle.pulses.proofs.Halves.{Halves, halves, parted, full, group-take, group-drop, up-parts, takes-lowest, takes-lower, sorted-half, sorted-take, lowest-first}
 
 pub one-houses : (M : ℕ) (ps : List Pulse) → Group M 1 ps → One M ps (one-house M ps)
 unfolding one-house
@@ -90,9 +90,6 @@ none-left js ks e x s = omega (arith, tally-append js ks x s, ap (λ z. tally z 
 none-right : (js ks : List Pulse) → length ks ≡ 0 → Same (js ++ ks) js
 none-right js ks e x s = omega (arith, tally-append js ks x s, ap (λ z. tally z x s) (nil-from-length ks e))
 
-up-by : (m n : ℕ) (ps : List Pulse) → m ≡ n → Same (up m ps) (up n ps)
-up-by m n ps e x s = ap (λ z. tally (up z ps) x s) e
-
 length-up-none : (n : ℕ) (ps : List Pulse) → length ps ≡ 0 → length (up n ps) ≡ 0
 unfolding up
 length-up-none n [] e = refl
@@ -139,11 +136,6 @@ five-houses (suc H) ps w g a =
     let r = parted H h 3 5 ps (f .is-half) (f .has) g in
     Five.five H h _ _ ps (take 3 (half H h ps)) (others 3 H h ps) (f .is-half) (r .same) (takes-lowest H h 3 ps (f .is-half) a)
     (three-houses H _ (omega arith) (r .front) (sorted-take 3 _ (sorted-half H h ps a))) (two-houses (suc H) _ (r .rest))
-
-zero-or-one : (h : ℕ) → h < 2 → (h ≡ 0) ⊎ (h ≡ 1)
-zero-or-one zero b = inl refl
-zero-or-one (suc zero) b = inr refl
-zero-or-one (suc (suc h)) b = absurd (omega arith)
 
 six-split : (H n h : ℕ) (ps full rest : List Pulse) → 2 ≤ H → n ≤ 3 → h < 2 → (n ≡ 3 → h ≡ 0)
     → Same ps (up (h * 2 ^ H) full ++ up ((1 - h) * 2 ^ H) rest) → Group H (6 - n) full → Group H n rest → Sorted full → Sorted rest → Six Choice.house (suc H) ps (six-halves H n h full rest)

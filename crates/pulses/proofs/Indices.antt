@@ -1,14 +1,14 @@
 -- The laws of the indices, for each number of pulses.
-use mathlib.Core.Path.{_≡_, refl, sym, ap, subst, _∙_}
+use mathlib.Core.Path.{refl, sym, ap, _∙_}
 use mathlib.Core.List.{List}
-use Prim.Native.Nat.{ℕ, zero, suc, _+_, _-_, _*_, _^_, _≤_, _<_}
+use Prim.Native.Nat.{ℕ, zero, suc, _+_, _-_, _*_}
 use native.Mathlib.Omega.{arith}
 use Rattle.pulses.specs.declared.pulse.Pulse.{Pulse}
-use Rattle.pulses.specs.Pulses.{Same, Sorted, Group, sort}
+use Rattle.pulses.specs.Pulses.{sort}
 use Rattle.pulses.specs.Rules.{Choice, Index, bits}
 use Rattle.pulses.specs.Reading.{pulses-of}
 use Rattle.pulses.specs.House.{house}
-use Rattle.pulses.specs.Laws.{Fits, Reading-is-right, Every-number-reads, House-follows, House-alone, Round-trip, House-tells-apart}
+use Rattle.pulses.specs.Laws.{Reading-is-right, Every-number-reads, House-follows, House-alone, Round-trip, House-tells-apart}
 use Rattle.pulses.proofs.ReadBack.{Read, one-reads, two-reads, three-reads, four-reads, five-reads, six-reads}
 use Rattle.pulses.proofs.Complete.{one-every, two-every, three-every, four-every, five-every, six-every}
 use Rattle.pulses.proofs.Houses.{one-houses, two-houses, three-houses, four-houses, five-houses, six-houses}

@@ -1,17 +1,15 @@
 -- The steps of the loops that put pulses in order.
-use mathlib.Core.Path.{_≡_, refl, sym, ap, _∙_}
-use mathlib.Core.List.{List, [], _∷_, _++_, append-assoc}
-use mathlib.Core.Bool.{Bool, true, false, cond}
-use Prim.Native.Nat.{ℕ, zero, suc, _+_, _-_, _<_, _≤_}
+use mathlib.Core.Path.{_≡_}
+use mathlib.Core.List.{List, _∷_, _++_, append-assoc}
+use mathlib.Core.Bool.{true, false}
+use Prim.Native.Nat.{ℕ, suc, _+_, _-_, _<_, _≤_}
 use native.Mathlib.Omega.{arith}
 use native.Mathlib.Numerals.{add-one}
 use lib.Dec.{leb}
-use lib.ListN.{length, getD, take, drop, set, replicate}
+use lib.ListN.{length, take, drop, set}
 use Rattle.std.proofs.shelf.Lists.{take-more, drop-more, take-more-set, drop-set-lt, set-split, drop-all}
 use Rattle.std.proofs.shelf.Ways.{tells}
 use Rattle.pulses.specs.declared.pulse.Pulse.{Pulse}
-use Rattle.pulses.specs.declared.pulse.Sign.{Sign}
-use Rattle.pulses.specs.declared.pulse.Sign.the-variants.{Plus, Minus}
 use Rattle.pulses.specs.Sets.{none, at}
 use Rattle.pulses.specs.Sets.{put, line-up}
 

@@ -4,16 +4,15 @@ use mathlib.Core.List.{List, [], _∷_, _++_}
 use mathlib.Core.Bool.{cond}
 use Rattle.pulses.specs.declared.pulse.Sign.{Sign}
 use Rattle.pulses.specs.declared.pulse.Sign.the-variants.{Plus, Minus}
-use Prim.Native.Nat.{ℕ, zero, suc, _+_, _-_, _*_, _/_, _%_, _^_, _≤_, _<_}
+use Prim.Native.Nat.{ℕ, suc, _+_, _-_, _*_, _/_, _%_, _^_, _≤_, _<_}
 use native.Mathlib.Omega.{arith}
 use native.Mathlib.Nat.{mod-eq-of-lt}
-use lib.Dec.{leb}
 use Rattle.std.proofs.shelf.Tests.{le-leb, lt-leb}
 use Rattle.pulses.specs.declared.pulse.Pulse.{Pulse}
-use Rattle.pulses.specs.Pulses.{pulse, bit, tally, Same, up, opposite}
+use Rattle.pulses.specs.Pulses.{pulse, bit, Same, up, opposite}
 use Rattle.pulses.specs.Rules.{Choice, One, Two, Three, Close, Four, Five, Six}
 use Rattle.pulses.specs.Reading.{sign-of, one-of, pair-of, two-of, three-of, close-of, four-of, five-of, six-of, four-by, six-by, six-uneven}
-use Rattle.pulses.proofs.Cuts.{widen, cut-below, cut3, cut3-below, cut-high, cut-low, Cut3}
+use Rattle.pulses.proofs.Cuts.{widen, cut-below, cut3, cut3-below, cut-high, cut-low}
 use Rattle.pulses.proofs.Tallies.{same-trans, same-append, same-up}
 
 pub record Read (b : ℕ) (ps : List Pulse) (i : ℕ) (qs : List Pulse) : Type 0 where

@@ -1,13 +1,12 @@
 -- What each rule reads, group after group, on a track that begins at `from`: what the code's calls give, joined.
-use mathlib.Core.Path.{_≡_, refl, sym, ap, ap₂, _∙_}
-use mathlib.Core.List.{List, [], _∷_, _++_, map}
+use mathlib.Core.Path.{_≡_, refl, ap, ap₂, _∙_}
+use mathlib.Core.List.{List, [], _∷_, _++_}
 use Prim.Native.Nat.{ℕ, zero, suc, _+_, _-_, _*_, _/_, _%_, _^_, _≤_, _<_}
 use native.Mathlib.Omega.{arith}
 use native.Mathlib.Nat.{add-assoc}
 use lib.ListN.{length, take, drop, set}
 use borrow.Rule.Slice.PartMut.{putMid, postOf}
-use borrow.Author.Needs.{needs}
-use Rattle.std.proofs.shelf.Lists.{length-append, length-take, length-drop, take-at, drop-at, drop-all, append-nil}
+use Rattle.std.proofs.shelf.Lists.{length-take, length-drop, take-at, drop-at, drop-all, append-nil}
 use Rattle.std.proofs.shelf.Bits.{shr-below, pow-add}
 use Rattle.pulses.specs.declared.pulse.Pulse.{Pulse}
 use Rattle.pulses.specs.Pulses.{pulse, up}

@@ -1,30 +1,23 @@
 -- The rules speak of sets, on the track; and what is read has as many pulses as it should.
-use mathlib.Core.Path.{_≡_, refl, sym, ap, ap₂, subst, _∙_}
+use mathlib.Core.Path.{_≡_, refl, sym, ap₂, subst, _∙_}
 use mathlib.Core.List.{List, [], _∷_, _++_}
-use Prim.Native.Nat.{ℕ, zero, suc, _+_, _-_, _*_, _/_, _%_, _^_, _≤_, _<_}
+use Prim.Native.Nat.{ℕ, zero, suc, _+_, _-_, _*_, _^_, _≤_, _<_}
 use native.Mathlib.Omega.{arith}
 use native.Mathlib.Nat.{pow-suc}
 use lib.ListN.{length}
 use Rattle.std.proofs.shelf.Lists.{length-append}
 use Rattle.std.proofs.shelf.Elements.{all-append, all-weaker}
 use Rattle.pulses.specs.declared.pulse.Pulse.{Pulse}
-use Rattle.pulses.specs.declared.pulse.Sign.{Sign}
-use Rattle.pulses.specs.Pulses.{opposite, pulse, Same, On, up, half}
-use Rattle.pulses.specs.Rules.{Choice, Lower-first, One, Two, Three, Close, Four, Five, Six, Index}
+use Rattle.pulses.specs.Pulses.{opposite, pulse, Same, On, up}
+use Rattle.pulses.specs.Rules.{Choice, One, Two, Three, Close, Four, Five, Six, Index}
 use Rattle.pulses.specs.Reading.{one-of, pair-of, two-of, three-of, close-of, four-by, four-of, five-of, six-uneven, six-by, six-of, pulses-of}
 use Rattle.pulses.specs.Laws.{Fits}
-use Rattle.pulses.proofs.Tallies.{same-size, same-sym}
 use Rattle.pulses.proofs.Halves.{length-up, on-up}
-use Rattle.pulses.proofs.Unique.{all-same, same-half}
+use Rattle.pulses.proofs.Unique.{all-same}
 
 -- each rule, of the same set
-module _ (ps qs : List Pulse) (e : Same ps qs) where
-  swap : (rs : List Pulse) → Same ps rs → Same qs rs
-  swap rs f x s = sym (e x s) ∙ f x s
-
-  lower-same : (v : Choice) (H h : ℕ) → Lower-first v H h ps → Lower-first v H h qs
-  lower-same Choice.free H h l = tt
-  lower-same Choice.house H h l = λ k. omega (arith, l k, same-size (half H 0 ps) (half H 0 qs) (same-half H 0 ps qs e))
+swap : (ps qs : List Pulse) → Same ps qs → (rs : List Pulse) → Same ps rs → Same qs rs
+swap ps qs e rs f x s = sym (e x s) ∙ f x s
 
 one-same : {M : ℕ} {ps : List Pulse} {i : ℕ} → One M ps i → (qs : List Pulse) → Same ps qs → One M qs i
 one-same (One.one M p s ps h f) qs e = One.one M p s qs h (swap ps qs e (pulse p s ∷ []) f)

@@ -1,19 +1,18 @@
 -- Tallies of lists of pulses: what joins, moves and halves do to them.
 use mathlib.Core.Path.{_≡_, refl, sym, ap, ap₂, subst, _∙_}
-use mathlib.Core.List.{List, [], _∷_, _++_, map}
+use mathlib.Core.List.{List, [], _∷_, _++_}
 use mathlib.Core.Bool.{true, false, cond, _&&_}
 use Rattle.pulses.specs.declared.pulse.Sign.{Sign}
 use Rattle.pulses.specs.declared.pulse.Sign.the-variants.{Plus, Minus}
 use mathlib.Core.Logic.{_⊎_, inl, inr, ⊎-elim}
-use Prim.Native.Nat.{ℕ, zero, suc, _+_, _-_, _*_, _/_, _%_, _^_, _≤_, _<_}
+use Prim.Native.Nat.{ℕ, suc, _+_, _-_, _<_}
 use native.Mathlib.Omega.{arith}
 use lib.Dec.{eqb}
-use lib.ListN.{length, take, drop}
-use Rattle.std.specs.shelf.Lists.{All, kept-by}
+use lib.ListN.{length}
 use Rattle.std.proofs.shelf.Tests.{eqb-true, eqb-false, eq-eqb, ne-eqb, cases-eq, cases-lt, cond-both}
 use Rattle.std.proofs.shelf.Ways.{tells}
 use Rattle.pulses.specs.declared.pulse.Pulse.{Pulse}
-use Rattle.pulses.specs.Pulses.{pulse, hit, tally, Same, Lawful, On, up, half, alike}
+use Rattle.pulses.specs.Pulses.{pulse, hit, tally, Same, Lawful, up, alike}
 
 pub same-refl : (ps : List Pulse) → Same ps ps
 same-refl ps x s = refl
@@ -23,6 +22,12 @@ same-sym ps qs h x s = sym (h x s)
 
 pub same-trans : (ps qs rs : List Pulse) → Same ps qs → Same qs rs → Same ps rs
 same-trans ps qs rs h k x s = h x s ∙ k x s
+
+pub same-from : (ps qs : List Pulse) → ps ≡ qs → Same ps qs
+same-from ps qs e x s = ap (λ z. tally z x s) e
+
+pub up-by : (m n : ℕ) (ps : List Pulse) → m ≡ n → Same (up m ps) (up n ps)
+up-by m n ps e x s = ap (λ z. tally (up z ps) x s) e
 
 pub tally-append : (ps qs : List Pulse) (x : ℕ) (s : Sign) → tally (ps ++ qs) x s ≡ tally ps x s + tally qs x s
 tally-append [] qs x s = omega arith

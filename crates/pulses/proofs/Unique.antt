@@ -3,23 +3,24 @@ use mathlib.Core.Path.{_≡_, refl, sym, ap, ap₂, subst, _∙_}
 use mathlib.Core.List.{List, [], _∷_, _++_}
 use Rattle.pulses.specs.declared.pulse.Sign.{Sign}
 use Rattle.pulses.specs.declared.pulse.Sign.the-variants.{Plus, Minus}
-use mathlib.Core.Logic.{_⊎_, inl, inr, ⊎-elim}
-use Prim.Native.Nat.{ℕ, zero, suc, _+_, _-_, _*_, _/_, _%_, _^_, _≤_, _<_}
+use mathlib.Core.Logic.{⊎-elim}
+use Prim.Native.Nat.{ℕ, suc, _+_, _-_, _*_, _/_, _%_, _^_, _≤_, _<_}
 use native.Mathlib.Omega.{arith}
-use lib.Dec.{eqb, leb}
+use lib.Dec.{leb}
 use lib.ListN.{length, take, drop}
 use Rattle.std.specs.shelf.Lists.{All}
-use Rattle.std.proofs.shelf.Tests.{eq-eqb, cases-eq, cases-lt, le-leb, lt-leb, leb-true, leb-false, cond-both, cond-true, cond-false}
+use Rattle.std.proofs.shelf.Tests.{cases-eq, cases-lt, le-leb, lt-leb, cond-both, cond-true, cond-false}
 use Rattle.std.proofs.shelf.Bits.{div-add-mod', div-mul-add}
 use Rattle.std.proofs.shelf.Lists.{length-append, take-at, append-nil, take-append-drop}
 use Rattle.std.proofs.shelf.Elements.{all-append}
 use Rattle.pulses.specs.declared.pulse.Pulse.{Pulse}
-use Rattle.pulses.specs.Pulses.{pulse, bit, hit, tally, Same, Lawful, On, Sorted, up, half, Group, insert, sort, opposite}
-use Rattle.pulses.specs.Rules.{Choice, Lowest, Lower-first, One, Two, Three, Close, Four, Five, Six}
+use Rattle.pulses.specs.Pulses.{pulse, bit, tally, Same, Lawful, On, Sorted, up, half, Group, insert, sort, opposite}
+use Rattle.pulses.specs.Rules.{Choice, Lowest, One, Two, Three, Close, Four, Five, Six}
 use Rattle.pulses.specs.House.{one-house, two-places, two-rising, two-house, fuller, others, three-by, three-house, close-by, close-house, four-halves, four-house, five-by, five-house, six-halves, six-house}
-use Rattle.pulses.proofs.Tallies.{hit-self, same-size, same-trans, same-append, same-swap, same-up, same-refl, same-sym, up-zero, tally-append, lawful-same, lawful-left, lawful-right, lawful-down, hit-apart, hit-up, hit-place}
-use Rattle.pulses.proofs.Halves.{Halves, halves, Parted, parted, Full, full, half-none, half-in, half-out, half-append, half-up, half-up-other, on-half, on-up, length-up, sorted-half, sorted-take, lowest-first, group-take, group-drop}
-use Rattle.pulses.proofs.Houses.{one-houses, two-houses, three-houses, group-size}
+use Rattle.pulses.proofs.Cuts.{zero-or-one}
+use Rattle.pulses.proofs.Tallies.{up-by, hit-self, same-size, same-swap, same-up, same-sym, up-zero, tally-append, lawful-same, lawful-left, lawful-right, lawful-down, hit-apart, hit-up, hit-place}
+use Rattle.pulses.proofs.Halves.{halves, parted, full, half-none, half-in, half-out, half-append, half-up, half-up-other, on-half, on-up, length-up, sorted-half, sorted-take, group-take, group-drop}
+use Rattle.pulses.proofs.Houses.{one-houses, two-houses, group-size}
 use Rattle.pulses.proofs.Canon.{same-sorted, same-sort, sorted-sort, sort-is}
 
 -- what holds of every place, by tallies
@@ -199,11 +200,6 @@ two-is M ps qs i u g e =
     let l = lawful-same qs ps (same-sym ps qs e) (g .lawful) in
     two-canon u l ∙ ap (two-house M) (sort-same ps qs l e) ∙ sym (two-canon (two-houses M qs g) (g .lawful))
 
-zero-or-one : (h : ℕ) → h < 2 → (h ≡ 0) ⊎ (h ≡ 1)
-zero-or-one zero b = inl refl
-zero-or-one (suc zero) b = inr refl
-zero-or-one (suc (suc h)) b = absurd (omega arith)
-
 fuller-is : (k H h : ℕ) (qs : List Pulse) → h < 2 → k ≤ length (half H h qs) → (h ≡ 1 → length (half H 0 qs) < k) → fuller k H qs ≡ h
 unfolding fuller
 fuller-is k H h qs b m o =
@@ -269,9 +265,6 @@ half-of H h o qs js ks n a b e x s =
     same-half H h qs (up (h * 2 ^ H) js ++ up (o * 2 ^ H) ks) e x s
     ∙ ap (λ z. tally z x s)
     (half-append H h (up (h * 2 ^ H) js) (up (o * 2 ^ H) ks) ∙ ap₂ (λ y z. y ++ z) (half-up H h js a) (half-up-other H h o ks n b) ∙ append-nil js)
-
-up-by : (m n : ℕ) (ps : List Pulse) → m ≡ n → Same (up m ps) (up n ps)
-up-by m n ps e x s = ap (λ z. tally (up z ps) x s) e
 
 -- the form with no offset at half 0
 at-zero : (H : ℕ) (qs low high : List Pulse) → Same qs (low ++ up (2 ^ H) high) → Same qs (up (0 * 2 ^ H) low ++ up (1 * 2 ^ H) high)

@@ -1,8 +1,8 @@
 -- How a sorted list of pulses falls into the halves of its track, and what the house's choices take of it.
 use mathlib.Core.Path.{_≡_, refl, sym, ap, ap₂, subst, _∙_}
-use mathlib.Core.List.{List, [], _∷_, _++_, map}
+use mathlib.Core.List.{List, [], _∷_, _++_}
 use mathlib.Core.Bool.{cond}
-use mathlib.Core.Logic.{_⊎_, inl, inr, ⊎-elim}
+use mathlib.Core.Logic.{_⊎_, ⊎-elim}
 use Prim.Native.Nat.{ℕ, zero, suc, _+_, _-_, _*_, _/_, _%_, _^_, _≤_, _<_}
 use native.Mathlib.Omega.{arith}
 use native.Mathlib.Nat.{div-eq-of-lt}
@@ -11,8 +11,8 @@ use lib.ListN.{length, take, drop}
 use lib.Pow.{mod-mod-pow}
 use Rattle.std.specs.shelf.Lists.{All}
 use Rattle.std.proofs.shelf.Bits.{pow-pos, div-below, mod-below, div-add-mod'}
-use Rattle.std.proofs.shelf.Lists.{length-map, map-append, take-map, drop-map, take-take, take-append-drop, drop-append-le, drop-drop, length-take, length-drop, length-append, append-nil}
-use Rattle.std.proofs.shelf.Elements.{all-take, all-drop, all-weaker}
+use Rattle.std.proofs.shelf.Lists.{length-map, map-append, take-map, drop-map, take-take, take-append-drop, drop-append-le, drop-drop, length-take, length-append, append-nil}
+use Rattle.std.proofs.shelf.Elements.{all-drop}
 use Rattle.std.proofs.shelf.Tests.{cases-eq, cases-lt, le-leb, lt-leb, cond-true, cond-false}
 use Rattle.pulses.specs.declared.pulse.Pulse.{Pulse}
 use Rattle.pulses.specs.Pulses.{pulse, On, Sorted, up, half}

@@ -1,26 +1,22 @@
 -- The worked examples, by computing the definitions and by the laws.
-use mathlib.Core.Path.{_≡_, refl, sym, ap, subst, _∙_}
+use mathlib.Core.Path.{_≡_, refl, ap, subst, _∙_}
 use mathlib.Core.List.{List, [], _∷_}
 use mathlib.Core.Bool.{true}
-use Prim.Native.Nat.{ℕ, _+_, _^_, _≤_, _<_}
+use Prim.Native.Nat.{ℕ}
 use native.Mathlib.Omega.{arith}
 use lib.ListN.{length}
-use Rattle.std.specs.declared.result.Result.the-variants.{Ok, Err}
-use Rattle.refusals.specs.declared.cause.Cause.the-variants.{BothSigns}
-use Rattle.refusals.specs.Spots.{because}
+use Rattle.std.specs.declared.result.Result.the-variants.{Ok}
 use Rattle.pulses.specs.declared.pulse.Pulse.{Pulse}
-use Rattle.pulses.specs.declared.index.Reading.the-variants.{Strict, Open}
 use Rattle.pulses.specs.Pulses.{hit, up, half, insert, sort, Group, Sorted}
 use Rattle.pulses.specs.Rules.{Choice, Index}
-use Rattle.pulses.specs.Reading.{one-of, pair-of, two-of, three-of, close-of, four-of, five-of, six-of, four-by, six-by, six-uneven, pulses-of}
+use Rattle.pulses.specs.Reading.{one-of, pair-of, two-of, three-of, close-of, four-of, five-of, six-of, four-by, six-by, six-uneven}
 use Rattle.pulses.specs.House.{one-house, two-places, two-rising, two-house, fuller, others, three-by, three-house, close-by, close-house, four-halves, four-house, five-by, five-house, six-halves, six-house, house}
 use Rattle.pulses.specs.Sets.{on-track, one-signed, checked}
 use Rattle.pulses.specs.Calls.{used, writeIndex, readIndex}
 use Rattle.pulses.specs.Examples.{plus, minus, Stands-for, Worked-examples}
-use Rattle.pulses.proofs.Canon.{sorted-sort, same-sort}
+use Rattle.pulses.proofs.Canon.{sorted-sort}
 use Rattle.pulses.proofs.Checked.{on-from-test, lawful-from-test}
 use Rattle.pulses.proofs.Indices.{house-follows, every-number-reads}
-use Rattle.pulses.proofs.Rules.{index-same}
 use Rattle.pulses.proofs.CallLaws.{in-use, writes, is-read-again}
 
 all-defs : Unit {0}

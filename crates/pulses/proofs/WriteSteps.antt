@@ -1,5 +1,5 @@
 -- The house index by each rule, from the groups that the code cuts a sorted list into.
-use mathlib.Core.Path.{_≡_, refl, sym, ap, ap₂, subst, _∙_}
+use mathlib.Core.Path.{_≡_, refl, sym, ap, _∙_}
 use mathlib.Core.List.{List, [], _∷_, _++_}
 use mathlib.Core.Bool.{cond}
 use Prim.Native.Nat.{ℕ, zero, suc, _+_, _-_, _*_, _/_, _%_, _^_, _≤_, _<_}
@@ -13,7 +13,7 @@ use Rattle.pulses.specs.declared.pulse.Pulse.{Pulse}
 use Rattle.pulses.specs.declared.pulse.Sign.{Sign}
 use Rattle.pulses.specs.Pulses.{pulse, bit, alike, half, Sorted}
 use Rattle.pulses.specs.Sets.{none, at}
-use Rattle.pulses.specs.House.{one-house, two-places, two-rising, two-house, fuller, others, three-by, three-house, close-by, close-house, four-halves, four-house, five-by, five-house, six-halves, six-house}
+use Rattle.pulses.specs.House.{one-house, two-places, two-rising, two-house, fuller, three-by, three-house, close-by, close-house, four-halves, four-house, five-by, five-house, six-halves, six-house}
 use Rattle.pulses.specs.Within.{down, Halved, Chosen}
 use Rattle.pulses.proofs.Halves.{half-none, half-in, half-out, half-append}
 use Rattle.pulses.proofs.Within.{length-down, down-append, take-down, drop-down}

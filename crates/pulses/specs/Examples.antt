@@ -4,7 +4,7 @@ use mathlib.Core.Path.{_≡_}
 use mathlib.Core.List.{List, [], _∷_}
 use Prim.Native.Nat.{ℕ}
 use Rattle.std.specs.declared.result.Result.the-variants.{Ok, Err}
-use Rattle.refusals.specs.declared.cause.Cause.the-variants.{BothSigns, NotHouseIndex}
+use Rattle.refusals.specs.declared.cause.Cause.the-variants.{BothSigns}
 use Rattle.refusals.specs.Spots.{because}
 use Rattle.pulses.specs.declared.pulse.Pulse.{Pulse}
 use Rattle.pulses.specs.declared.pulse.Sign.the-variants.{Plus, Minus}

@@ -2,13 +2,13 @@
 --   one-house .. six-house   the house index by that rule
 --   house n M ps             the house index of the n pulses ps on a track of width M
 use mathlib.Core.List.{List, [], _∷_, _++_}
-use mathlib.Core.Bool.{Bool, cond}
+use mathlib.Core.Bool.{cond}
 use Prim.Native.Nat.{ℕ, zero, suc, _+_, _-_, _*_, _^_}
 use lib.Dec.{leb}
 use lib.ListN.{length, take, drop}
 use Rattle.pulses.specs.declared.pulse.Pulse.{Pulse}
 use Rattle.pulses.specs.declared.pulse.Sign.{Sign}
-use Rattle.pulses.specs.Pulses.{pulse, bit, alike, up, half}
+use Rattle.pulses.specs.Pulses.{bit, alike, up, half}
 
 unfoldable pub one-house : ℕ → List Pulse → ℕ
 one-house M [] = 0

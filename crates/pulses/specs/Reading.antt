@@ -3,7 +3,7 @@
 --   one-of .. six-of   the pulses of an index by that rule
 --   pulses-of n M i    the pulses of the index i of n pulses on a track of width M
 use mathlib.Core.List.{List, [], _∷_, _++_}
-use mathlib.Core.Bool.{Bool, cond}
+use mathlib.Core.Bool.{cond}
 use Prim.Native.Nat.{ℕ, zero, suc, _+_, _-_, _*_, _/_, _%_, _^_}
 use lib.Dec.{eqb, leb}
 use Rattle.pulses.specs.declared.pulse.Pulse.{Pulse}

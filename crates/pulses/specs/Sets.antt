@@ -5,10 +5,9 @@
 --   checked M ps      ps in order, or the first question that they fail: on the track, no place with both signs
 --   padded ps         a row of six: ps, and behind them plus pulses on place 0
 --   trackSet n M ps   the row of a track of n pulses, or why not: the number of pulses, then as checked
-use mathlib.Core.Path.{_≡_}
 use mathlib.Core.List.{List, [], _∷_, _++_}
-use mathlib.Core.Bool.{Bool, true, false, cond, _&&_}
-use Prim.Native.Nat.{ℕ, zero, suc, _+_, _-_, _^_, _<_}
+use mathlib.Core.Bool.{Bool, true, cond, _&&_}
+use Prim.Native.Nat.{ℕ, zero, suc, _-_, _^_}
 use lib.Dec.{eqb, leb, ltb}
 use lib.ListN.{length, getD, replicate}
 use Rattle.std.specs.declared.result.Result.{Result}

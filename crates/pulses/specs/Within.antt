@@ -3,7 +3,7 @@
 --   Halved M ps low high        low and high are what stands in the two halves of a part of width M
 --   Chosen k M ps h group rest  group is the lowest k of half h, the half that the house takes them from, and rest what is left
 use mathlib.Core.Path.{_≡_}
-use mathlib.Core.List.{List, map, _++_}
+use mathlib.Core.List.{List, map}
 use Prim.Native.Nat.{ℕ, _-_, _%_, _^_, _<_}
 use lib.ListN.{length, take}
 use Rattle.pulses.specs.declared.pulse.Pulse.{Pulse}

@@ -1,8 +1,8 @@
 use mathlib.Core.Path.{_≡_, sym, ap, subst, _∙_}
 use mathlib.Core.List.{List}
-use Prim.Native.Nat.{ℕ, _-_, _≤_}
+use Prim.Native.Nat.{ℕ, _-_}
 use native.Mathlib.Omega.{arith}
-use lib.ListN.{length, take, replicate}
+use lib.ListN.{length, replicate}
 use mir.Syntax.{w32}
 use mir.Val.{SFits}
 use borrow.Author.Needs.{needs}
@@ -12,7 +12,6 @@ use Rattle.std.proofs.shelf.Signed.{toZ-ofZ}
 use Rattle.refusals.specs.declared.refusal.Refusal.{Refusal}
 use Rattle.pulses.specs.declared.pulse.Pulse.{Pulse}
 use Rattle.pulses.specs.declared.index.Reading.{Reading}
-use Rattle.pulses.specs.Pulses.{On}
 use Rattle.pulses.specs.Sets.{none}
 use Rattle.pulses.specs.Calls.{readIndex, handed, filled}
 use Rattle.pulses.specs.Octets.{answerOf, filledOctets, wayOf}

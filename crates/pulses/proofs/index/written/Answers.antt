@@ -7,8 +7,6 @@ use borrow.Author.Needs.{needs}
 use Rattle.std.specs.declared.result.Result.the-variants.{Ok, Err}
 use Rattle.std.proofs.shelf.Results.{err-from-errBy}
 use Rattle.pulses.specs.Calls.{used}
-use Rattle.pulses.specs.House.{house}
-use Rattle.pulses.specs.Within.{down}
 use Rattle.pulses.proofs.CallLaws.{in-use, rowed, write-unused, write-refused, write-answers}
 use Rattle.pulses.proofs.index.written.Needs as need
 

@@ -1,5 +1,4 @@
-use mathlib.Core.Path.{_≡_}
-use Prim.Native.Nat.{_-_, _*_, _≤_, _<_}
+use Prim.Native.Nat.{_-_, _*_, _<_}
 use native.Mathlib.Omega.{arith}
 use Rattle.pulses.proofs.ReadSteps.{groups, three-step, close-step, five-step, four-step-0, four-step-1, four-step-2, four-step-3, six-step-0, six-step-1, six-step-2, six-step-3, top-bit}
 use Rattle.pulses.proofs.read.+close+five+four+read+six+three.Needs as need

@@ -1,12 +1,10 @@
-use mathlib.Core.Path.{_≡_, ap, ap₂, _∙_}
-use mathlib.Core.List.{[], _∷_}
+use mathlib.Core.Path.{_≡_, _∙_}
 use mathlib.Core.Bool.{cond}
-use Prim.Native.Nat.{_+_}
 use native.Mathlib.Omega.{arith}
 use lib.Dec.{leb}
 use Rattle.std.proofs.shelf.Tests.{le-leb, lt-leb}
-use Rattle.pulses.specs.Pulses.{pulse, up, opposite}
-use Rattle.pulses.specs.Reading.{two-of, pair-of, sign-of}
+use Rattle.pulses.specs.Pulses.{up, opposite}
+use Rattle.pulses.specs.Reading.{two-of, pair-of}
 use Rattle.pulses.proofs.ReadSteps.{set-two}
 use Rattle.pulses.proofs.read.two.Needs as need
 use Rattle.pulses.proofs.read.two.Needs.{then-a-b, else-a-b}
