@@ -1,0 +1,15 @@
+pub mod Cells
+pub mod Blanks
+pub mod Taken
+pub mod Parted
+pub mod Alike
+pub mod Sounds
+pub mod Copied
+pub mod Rebuilding
+pub mod Lags
+pub mod Spelling
+pub mod Ordered
+pub mod Written
+pub mod Agreeing
+pub mod Matching
+pub mod Apart

@@ -1,0 +1,4 @@
+pub mod Modes
+pub mod Fields
+pub mod Plan
+pub mod Places
