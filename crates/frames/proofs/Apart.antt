@@ -35,17 +35,17 @@ there (Some s) = 1
 
 above : (n : ℕ) (ss : List Slot) (k : ℕ) (u : Slot) → rising n ss ≡ true → nth ss k ≡ Some u → n ≤ placeOf (u .part)
 above n [] k u h e = let z : _≡_ {A = ℕ} 0 1 = ap there e in absurd (omega arith)
-above n (s ∷ ss) zero u h e = let g = leb-true n (placeOf (s .part)) (and-parts _ _ h .0) in omega (arith, g, ap (λ s. placeOf (s .part)) (ap (told s) e))
+above n (s ∷ ss) zero u h e = let g = leb-true n (placeOf (s .part)) (and-parts (leb n (placeOf (s .part))) (rising (suc (placeOf (s .part))) ss) h .0) in omega (arith, g, ap (λ s. placeOf (s .part)) (ap (told s) e))
 above n (s ∷ ss) (suc k) u h e =
-    let g = leb-true n (placeOf (s .part)) (and-parts _ _ h .0) in
-    let r : suc (placeOf (s .part)) ≤ placeOf (u .part) = above (suc (placeOf (s .part))) ss k u (and-parts _ _ h .1) e in
+    let g = leb-true n (placeOf (s .part)) (and-parts (leb n (placeOf (s .part))) (rising (suc (placeOf (s .part))) ss) h .0) in
+    let r : suc (placeOf (s .part)) ≤ placeOf (u .part) = above (suc (placeOf (s .part))) ss k u (and-parts (leb n (placeOf (s .part))) (rising (suc (placeOf (s .part))) ss) h .1) e in
     omega (arith, g, r)
 
 before : (n : ℕ) (ss : List Slot) (j k : ℕ) (s u : Slot) → rising n ss ≡ true → nth ss j ≡ Some s → nth ss k ≡ Some u → j < k → placeOf (s .part) < placeOf (u .part)
 before n [] j k s u h e f l = let z : _≡_ {A = ℕ} 0 1 = ap there e in absurd (omega arith)
 before n (x ∷ xs) j zero s u h e f l = absurd (omega arith)
 before n (x ∷ xs) zero (suc k) s u h e f l =
-    let r : suc (placeOf (x .part)) ≤ placeOf (u .part) = above (suc (placeOf (x .part))) xs k u (and-parts _ _ h .1) f in
+    let r : suc (placeOf (x .part)) ≤ placeOf (u .part) = above (suc (placeOf (x .part))) xs k u (and-parts (leb n (placeOf (x .part))) (rising (suc (placeOf (x .part))) xs) h .1) f in
     omega (arith, r, ap (λ s. placeOf (s .part)) (ap (told x) e))
 before n (x ∷ xs) (suc j) (suc k) s u h e f l = before (suc (placeOf (x .part))) xs j k s u (and-parts _ _ h .1) e f (omega arith)
 

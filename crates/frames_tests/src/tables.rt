@@ -327,7 +327,7 @@ fn table_12h() -> Result<(), Fail> {
     check(mode.bits() == 177)
 }
 
-/// Table 12i.
+/// Table 12i, which prints the indices of both tracks as one, bits 46 to 57.
 #[test]
 fn table_12i() -> Result<(), Fail> {
     let mode = Mode::Rate6k60;

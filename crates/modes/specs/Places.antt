@@ -1,6 +1,5 @@
 -- The slot at a place of the plan, computed. Assumes Plan.
 --   heads m          how many slots stand before the subframes
---   firstPart m      how many slots of a subframe stand before its pulse fields
 --   cuts m           how many high parts a subframe has
 --   each m           how many slots a subframe has
 --   partIn m s i     slot i of subframe s

@@ -1,5 +1,4 @@
 ghost use mathlib.Core.Path.{_≡_};
-ghost use Prim.Native.Nat.{_<_};
 ghost use Rattle.modes.specs.Fields.{cellOf, fieldAt, spotOf};
 use refusals::refusal::Spot;
 

@@ -1,5 +1,5 @@
 ghost use mathlib.Core.Path.{_≡_};
-ghost use Prim.Native.Nat.{_+_, _<_, _≤_};
+ghost use Prim.Native.Nat.{_<_, _≤_};
 ghost use Rattle.modes.specs.Modes.{pulsesIn};
 ghost use Rattle.modes.specs.Fields.{width as widthOf};
 ghost use Rattle.pulses.specs.Rules.{bits as bitsOf};
@@ -23,6 +23,13 @@ pub enum Part {
     Low(usize, usize),
 }
 
+/// A slot of the plan: what it holds, and its width in bits, at least 1.
+#[derive(Clone, Copy, PartialEq, Eq, Debug)]
+pub struct Slot {
+    pub part: Part,
+    pub width: u8,
+}
+
 impl Part {
     /// What a refusal tells of the part: its subframe and track, each if it
     /// has one.
@@ -33,56 +40,6 @@ impl Part {
             Part::Value(field) => field.spot(),
             Part::High(s, t) | Part::Low(s, t) => on_track(s, t),
         }
-    }
-}
-
-/// The spot of a track of a subframe.
-fn on_track(subframe: usize, track: usize) -> Spot
-    ensures { λ r. ⌜ r ≡ trackSpot subframe track ⌝ }
-{
-    Spot {
-        frame: None,
-        subframe: Some(subframe),
-        track: Some(track),
-        cell: None,
-    }
-}
-
-/// A slot of the plan: what it holds, and its width in bits, at least 1.
-#[derive(Clone, Copy, PartialEq, Eq, Debug)]
-pub struct Slot {
-    pub part: Part,
-    pub width: u8,
-}
-
-/// The bits of an index of `pulses` pulses on a track of `width`.
-fn index_bits(pulses: usize, width: u8) -> u8
-    requires { ⌜ pulses ≤ 6 ⌝ }
-    requires { ⌜ width ≤ 5 ⌝ }
-    requires { ⌜ 1 ≤ width ⌝ }
-    ensures { λ r. ⌜ r ≡ bitsOf pulses width ⌝ }
-{
-    match pulses {
-        0 => 0,
-        1 => width + 1,
-        2 => 2 * width + 1,
-        3 => 3 * width + 1,
-        4 => 4 * width,
-        5 => 5 * width,
-        _ => 6 * width - 2,
-    }
-}
-
-/// How many bits of an index of `bits` bits are its high part.
-fn high_bits(bits: u8) -> u8
-    ensures is { λ r. ⌜ r ≡ highBits bits ⌝ }
-    ensures less { λ r. ⌜ r ≤ bits ⌝ }
-{
-    match bits {
-        16 => 2,
-        20 => 10,
-        22 => 11,
-        _ => 0,
     }
 }
 
@@ -263,5 +220,48 @@ impl Mode {
             Mode::Rate23k05 => 461,
             Mode::Rate23k85 => 477,
         }
+    }
+}
+
+/// The spot of a track of a subframe.
+fn on_track(subframe: usize, track: usize) -> Spot
+    ensures { λ r. ⌜ r ≡ trackSpot subframe track ⌝ }
+{
+    Spot {
+        frame: None,
+        subframe: Some(subframe),
+        track: Some(track),
+        cell: None,
+    }
+}
+
+/// The bits of an index of `pulses` pulses on a track of `width`.
+fn index_bits(pulses: usize, width: u8) -> u8
+    requires { ⌜ pulses ≤ 6 ⌝ }
+    requires { ⌜ width ≤ 5 ⌝ }
+    requires { ⌜ 1 ≤ width ⌝ }
+    ensures { λ r. ⌜ r ≡ bitsOf pulses width ⌝ }
+{
+    match pulses {
+        0 => 0,
+        1 => width + 1,
+        2 => 2 * width + 1,
+        3 => 3 * width + 1,
+        4 => 4 * width,
+        5 => 5 * width,
+        _ => 6 * width - 2,
+    }
+}
+
+/// How many bits of an index of `bits` bits are its high part.
+fn high_bits(bits: u8) -> u8
+    ensures is { λ r. ⌜ r ≡ highBits bits ⌝ }
+    ensures less { λ r. ⌜ r ≤ bits ⌝ }
+{
+    match bits {
+        16 => 2,
+        20 => 10,
+        22 => 11,
+        _ => 0,
     }
 }

@@ -2,7 +2,6 @@ ghost use mathlib.Core.Path.{_≡_};
 ghost use Prim.Native.Nat.{ℕ, _+_, _^_, _<_, _≤_};
 ghost use lib.ListN.{length, replicate};
 ghost use Rattle.std.specs.Orderings.{Decides};
-ghost use Rattle.pulses.specs.Pulses.{On};
 ghost use Rattle.pulses.specs.Sets.{at, none, put, line-up, apart, trackSet};
 use crate::pulse::Pulse;
 use crate::pulse::Sign;

@@ -1,8 +1,7 @@
 ghost use mathlib.Core.Path.{_≡_};
 ghost use mathlib.Core.List.{_++_};
-ghost use mathlib.Core.Bool.{cond};
-ghost use Prim.Native.Nat.{_+_, _-_, _*_, _/_, _%_, _^_, _<_, _≤_};
-ghost use lib.ListN.{length, take, drop};
+ghost use Prim.Native.Nat.{_+_, _-_, _*_, _%_, _^_, _<_, _≤_};
+ghost use lib.ListN.{length};
 ghost use Rattle.pulses.specs.Pulses.{bit, half, Sorted};
 ghost use Rattle.pulses.specs.Rules.{bits as bitsOf};
 ghost use Rattle.pulses.specs.House.{house, two-places, one-house, two-house, three-house, close-house, four-house, five-house, six-house};

@@ -1,6 +1,6 @@
 ghost use mathlib.Core.Path.{_≡_};
 ghost use mathlib.Core.List.{[], _∷_};
-ghost use Prim.Native.Nat.{_+_, _<_, _≤_};
+ghost use Prim.Native.Nat.{_<_, _≤_};
 ghost use Rattle.modes.specs.declared.field.Field.the-variants.{Delay as DelayOf};
 ghost use Rattle.frames.specs.Frames.{value as valueOf};
 ghost use Rattle.frames.specs.Delays.{longDelay, shortBase, step as stepOf, longBefore, delay as delayOf, microseconds as microsecondsOf};

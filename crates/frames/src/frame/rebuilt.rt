@@ -1,5 +1,4 @@
 ghost use mathlib.Core.Path.{_≡_};
-ghost use Prim.Native.Nat.{_<_};
 ghost use Rattle.frames.specs.Frames.{FieldCopied, TrackCopied};
 use crate::frame::Frame;
 use modes::field::CELLS;
