@@ -6,8 +6,8 @@ use modes::mode::ModePartialEq;
 use pulses::pulse::PulsePartialEq;
 
 impl Frame {
-    /// Whether both records are one.
-    fn same(&self, other: &Frame) -> bool
+    /// Whether both records have the same mode, fields and pulses.
+    fn same_parts(&self, other: &Frame) -> bool
         ensures { λ r. ⌜ Decides r (now (self .entry) ≡ now (other .entry)) ⌝ }
     {
         if self.mode != other.mode {
@@ -17,6 +17,13 @@ impl Frame {
             return false;
         }
         self.tracks == other.tracks
+    }
+
+    /// Whether both records are one.
+    fn same(&self, other: &Frame) -> bool
+        ensures { λ r. ⌜ Decides r (now (self .entry) ≡ now (other .entry)) ⌝ }
+    {
+        self.same_parts(other)
     }
 
     /// Whether both records are of one mode and agree in every field that is

@@ -4,7 +4,7 @@ use mathlib.Core.Logic.{⊎-elim}
 use Rattle.std.proofs.shelf.Tests.{cases-bool}
 use Rattle.frames.proofs.Alike.{frame-same}
 use Rattle.frames.proofs.Matching.{not-told, decided, values-tell, rows-tell}
-use Rattle.frames.proofs.frame.Frame.same.Needs as need
+use Rattle.frames.proofs.frame.Frame.same_parts.Needs as need
 
 pub returns-then-ne : need.returns-then-ne
 returns-then-ne c =

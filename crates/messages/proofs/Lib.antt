@@ -1,0 +1,16 @@
+pub mod Questions
+pub mod Steps
+pub mod Turning
+pub mod Nths
+pub mod Planned
+pub mod Placing
+pub mod Standing
+pub mod Building
+pub mod Turned
+pub mod Opened
+pub mod Accepted
+pub mod Housed
+pub mod Meant
+pub mod Longer
+pub mod Indexed
+pub mod Refused
