@@ -1,6 +1,7 @@
 -- The table of the modes. Assumes nothing.
 --   numberOf m        what a mode stands for: its number, 0 to 8
 --   modes             the modes, by their numbers
+--   modeOf n          the mode with the number n, if there is one
 --   row m             what the mode m gives a frame; 0 bits or 0 pulses: the mode has no such field or track
 --     spectrum        the bits of spectrum fields 0 to 6
 --     delays          the bits of the delays of subframes 0 to 3
@@ -13,9 +14,11 @@
 --   pulsesIn m s t    the pulses of track t of subframe s
 use mathlib.Core.List.{List, [], _∷_}
 use mathlib.Core.Bool.{cond}
-use Prim.Native.Nat.{ℕ}
+use Prim.Native.Nat.{ℕ, zero, suc}
 use lib.Dec.{ltb}
 use lib.ListN.{getD}
+use Rattle.std.specs.declared.option.Option.{Option}
+use Rattle.std.specs.declared.option.Option.the-variants.{Some, None}
 use Rattle.modes.specs.declared.mode.Mode.{Mode}
 use Rattle.modes.specs.declared.mode.Mode.the-variants.{Rate6k60, Rate8k85, Rate12k65, Rate14k25, Rate15k85, Rate18k25, Rate19k85, Rate23k05, Rate23k85}
 
@@ -32,6 +35,14 @@ numberOf Rate23k85 = 8
 
 abbrev pub modes : List Mode
 modes = Rate6k60 ∷ Rate8k85 ∷ Rate12k65 ∷ Rate14k25 ∷ Rate15k85 ∷ Rate18k25 ∷ Rate19k85 ∷ Rate23k05 ∷ Rate23k85 ∷ []
+
+abbrev pub nth : List Mode → ℕ → Option Mode
+nth [] n = None
+nth (m ∷ ms) zero = Some m
+nth (m ∷ ms) (suc n) = nth ms n
+
+abbrev pub modeOf : ℕ → Option Mode
+modeOf n = nth modes n
 
 pub record Row : Type 0 where
   pub spectrum : List ℕ

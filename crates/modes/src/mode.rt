@@ -1,7 +1,7 @@
 ghost use mathlib.Core.Path.{_≡_};
 ghost use Prim.Native.Nat.{_≤_};
 ghost use Rattle.std.specs.declared.option.Option.the-variants.{Some, None};
-ghost use Rattle.modes.specs.Modes.{numberOf, row};
+ghost use Rattle.modes.specs.Modes.{numberOf, modeOf, row};
 
 /// A mode of the codec, by its bit rate in kbit/s.
 #[derive(Clone, Copy, PartialEq, Eq, Debug)]
@@ -37,7 +37,8 @@ impl Mode {
 
     /// The mode with a number, if it is 0 to 8.
     pub fn from_number(number: u8) -> Option<Mode>
-        ensures { λ r. ⌜ elim r [ Some m ↦ numberOf m ≡ number | None ↦ 9 ≤ number ] ⌝ }
+        ensures is { λ r. ⌜ r ≡ modeOf number ⌝ }
+        ensures told { λ r. ⌜ elim r [ Some m ↦ numberOf m ≡ number | None ↦ 9 ≤ number ] ⌝ }
     {
         match number {
             0 => Some(Mode::Rate6k60),

@@ -23,21 +23,21 @@ loop-slot-holds c =
 pub put-slot-requires : need.put-slot-requires
 put-slot-requires c κs =
     let m = c .args .body .now .mode in
-    let e = c .in-Some .ensures tt in
+    let e = c .in-Some .ensures tt .is in
     let w = slot-wide m (c .loop-slot .k) (c .in-Some .slot) e in
     let s : Sound (c .loop-slot .k) (c .in-Some .slot) = slot-sound m (c .loop-slot .k) (c .in-Some .slot) e in
     record { fine = c .pre; narrow = s .0; has = w .0; wide = w .1; mode = c .loop-slot .inv .1 }
 
 pub loop-slot-less : need.loop-slot-less
 loop-slot-less c =
-    let s : Sound (c .loop-slot .k) (c .in-Some .slot) = slot-sound (c .args .body .now .mode) (c .loop-slot .k) (c .in-Some .slot) (c .in-Some .ensures tt) in
+    let s : Sound (c .loop-slot .k) (c .in-Some .slot) = slot-sound (c .args .body .now .mode) (c .loop-slot .k) (c .in-Some .slot) (c .in-Some .ensures tt .is) in
     omega (arith, s .1)
 
 pub loop-slot-again : need.loop-slot-again
 loop-slot-again c =
     let m = c .args .body .now .mode in
     let l = c .loop-slot in
-    let e = c .in-Some .ensures tt in
+    let e = c .in-Some .ensures tt .is in
     let s : Sound (l .k) (c .in-Some .slot) = slot-sound m (l .k) (c .in-Some .slot) e in
     let b = contentOf (c .args .body .now) in
     let f₀ = record-of (c .args .how) b (c .pre) in
@@ -51,4 +51,4 @@ returns c =
     let b = contentOf (c .args .body .now) in
     let f = record-of (c .args .how) b (c .pre) in
     let st : Stands b f = stands (c .args .how) b (c .pre) in
-    parts-all m (l .k) b f (l .built) (c .in-rest .ensures tt) st (l .inv .1 ∙ sym (st .mode)) (l .inv .2 f st)
+    parts-all m (l .k) b f (l .built) (c .in-rest .ensures tt .is) st (l .inv .1 ∙ sym (st .mode)) (l .inv .2 f st)

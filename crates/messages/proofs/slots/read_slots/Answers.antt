@@ -13,7 +13,7 @@ loop-slot-holds g c = (c .pre .inside, omega arith, refl, refl, refl)
 
 pub slot-value-requires : need.slot-value-requires
 slot-value-requires g c κs =
-    let s : Sound (c .loop-slot .k) (c .in-Some .slot) = slot-sound (c .args .mode) (c .loop-slot .k) (c .in-Some .slot) (c .in-Some .ensures tt) in
+    let s : Sound (c .loop-slot .k) (c .in-Some .slot) = slot-sound (c .args .mode) (c .loop-slot .k) (c .in-Some .slot) (c .in-Some .ensures tt .is) in
     record { inside = c .loop-slot .inv .0; narrow = s .0 }
 
 pub returns-in-Break-value : need.returns-in-Break-value
@@ -23,7 +23,7 @@ returns-in-Break-value g c =
     let cells = g .R·ReadCarrier .cells (a .carrier .now) in
     let p = err-from-errBy (c .from-residual .result) (c .from-residual .ensures .1) in
     rw (p .1, p .2) (record {
-      is = slots-stop (a .how) cells (a .mode) (a .frame) (l .at) (plan (a .mode)) (l .k) (l .values) (c .in-Some .slot) _ (c .in-Some .ensures tt) (c .in-Break-value .ensures tt .is) ∙ l .inv .4;
+      is = slots-stop (a .how) cells (a .mode) (a .frame) (l .at) (plan (a .mode)) (l .k) (l .values) (c .in-Some .slot) _ (c .in-Some .ensures tt .is) (c .in-Break-value .ensures tt .is) ∙ l .inv .4;
       mode = tt;
       end = tt;
       inside = tt;
@@ -31,7 +31,7 @@ returns-in-Break-value g c =
 
 pub cast-values : need.cast-values
 cast-values g c =
-    let s : Sound (c .loop-slot .k) (c .in-Some .slot) = slot-sound (c .args .mode) (c .loop-slot .k) (c .in-Some .slot) (c .in-Some .ensures tt) in
+    let s : Sound (c .loop-slot .k) (c .in-Some .slot) = slot-sound (c .args .mode) (c .loop-slot .k) (c .in-Some .slot) (c .in-Some .ensures tt .is) in
     let f : c .in-Continue-value .value < 2 ^ (c .in-Some .slot .width) = c .in-Continue-value .ensures tt .fits in
     let m : 2 ^ (c .in-Some .slot .width) ≤ 2 ^ 16 = pow-mono (s .0) in
     omega arith
@@ -41,7 +41,7 @@ add-k g c = omega (arith, c .loop-slot .inv .1)
 
 pub loop-slot-less : need.loop-slot-less
 loop-slot-less g c =
-    let s : Sound (c .loop-slot .k) (c .in-Some .slot) = slot-sound (c .args .mode) (c .loop-slot .k) (c .in-Some .slot) (c .in-Some .ensures tt) in
+    let s : Sound (c .loop-slot .k) (c .in-Some .slot) = slot-sound (c .args .mode) (c .loop-slot .k) (c .in-Some .slot) (c .in-Some .ensures tt .is) in
     omega (arith, s .1)
 
 pub loop-slot-again : need.loop-slot-again
@@ -49,7 +49,7 @@ loop-slot-again g c =
     let a = c .args in
     let l = c .loop-slot in
     let slot = c .in-Some .slot in
-    let said = c .in-Some .ensures tt in
+    let said = c .in-Some .ensures tt .is in
     let cells = g .R·ReadCarrier .cells (a .carrier .now) in
     let s : Sound (l .k) slot = slot-sound (a .mode) (l .k) slot said in
     let v = c .in-Continue-value .value in (
@@ -65,7 +65,7 @@ returns g c =
     let a = c .args in
     let l = c .loop-slot in
     let cells = g .R·ReadCarrier .cells (a .carrier .now) in
-    let none = c .in-rest .ensures tt in
+    let none = c .in-rest .ensures tt .is in
     record {
       is = slots-end (a .how) cells (a .mode) (a .frame) (l .at) (plan (a .mode)) (l .k) (l .values) none ∙ l .inv .4;
       mode = refl;
