@@ -86,12 +86,6 @@ ended cs n at u e =
     nil-right [] = refl
     nil-right (x ∷ xs) = ap (λ l. x ∷ l) (nil-right xs)
 
-some-content : (f g : Content) → _≡_ {A = Result (Option Content) Refusal} (Ok (Some f)) (Ok (Some g)) → f ≡ g
-some-content f g e = cc
-
-none-some : (f : Content) → _≡_ {A = Result (Option Content) Refusal} (Ok None) (Ok (Some f)) → ⊥
-none-some f e = let z : _≡_ {A = ℕ} 0 1 = cc in omega arith
-
 unfoldable pub Turned : Reading → List Cell → ℕ → ℕ → Option Content → Type 0
 Turned how cs left at None = Ended cs at
 Turned how cs left at (Some f) = Framed how cs left at f
