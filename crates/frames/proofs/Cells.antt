@@ -4,7 +4,7 @@ use mathlib.Core.Logic.{_≢_, _⊎_, inl, inr, ⊎-elim}
 use mathlib.Core.Bool.{cond}
 use mathlib.Core.List.{List}
 use Prim.Native.Nat.{ℕ, _+_, _-_, _/_, _^_, _<_, _≤_}
-use native.Mathlib.Nat.{div-eq-of-lt, lt-div-mul-add, zero-mul, zero-add}
+use native.Mathlib.Nat.{lt-div-mul-add, zero-mul, zero-add}
 use native.Mathlib.Omega.{arith}
 use lib.Dec.{ltb}
 use lib.ListN.{getD, length, set}
@@ -63,6 +63,3 @@ fit-set m values x v l has fits old k =
 
 pub below-from-shr : (v w : ℕ) → v / 2 ^ w ≡ 0 → v < 2 ^ w
 below-from-shr v w e = let h = lt-div-mul-add {a = v} {b = 2 ^ w} (pow-pos w) in let g = rw (e, zero-mul, zero-add) at h in g
-
-pub above-from-shr : (v w : ℕ) → (v / 2 ^ w ≡ 0 → ⊥) → 2 ^ w ≤ v
-above-from-shr v w ne = grind (arith, div-eq-of-lt {n = v} {m = 2 ^ w})

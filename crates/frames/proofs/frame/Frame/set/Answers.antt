@@ -5,7 +5,7 @@ use borrow.Author.Needs.{needs}
 use lib.ListN.{length, length-set}
 use lib.Seq.{getD-set-same, getD-set-other}
 use Rattle.modes.specs.Fields.{cellOf, width}
-use Rattle.frames.proofs.Cells.{cell-apart, width-has, fit-set, below-from-shr, above-from-shr}
+use Rattle.frames.proofs.Cells.{cell-apart, width-has, fit-set, below-from-shr}
 use Rattle.frames.proofs.frame.Frame.set.Needs as need
 
 pub ghost-self : need.ghost-self
