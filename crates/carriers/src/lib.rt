@@ -3,6 +3,7 @@
 //! A carrier means a list of cells, each a zero, a one or bad. What reading
 //! and writing promise is said once, by the two traits; the octet and the word
 //! carriers keep them, and everything above is generic over them.
+#![tactic(auto)]
 
 /// A zero or a one.
 pub mod bit;

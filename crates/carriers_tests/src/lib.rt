@@ -1,4 +1,5 @@
 //! Examples of carriers at work.
+#![tactic(auto)]
 
 /// Octet carriers.
 mod octets;

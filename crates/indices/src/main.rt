@@ -1,6 +1,7 @@
 //! For each line `pulses width index` of standard input: the pulses of the
 //! index from the lowest place up, the house index of their set, and whether
 //! the line's index is that one.
+#![tactic(auto)]
 
 /// One line of input, octet by octet.
 mod line;

@@ -2,6 +2,7 @@
 //!
 //! A message is, for each frame, its mode in 4 bits and its bits; then 1111;
 //! then zeros up to a multiple of 8.
+#![tactic(auto)]
 
 /// Why the frames of a message are not handed out.
 pub mod error;

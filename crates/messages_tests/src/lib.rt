@@ -1,4 +1,6 @@
 //! Messages of words, with bad cells, as a caller reads them.
+#![tactic(auto)]
+
 #[cfg(test)]
 mod tests {
     use carriers::memory::WordReader;

@@ -1,5 +1,6 @@
 //! The modes of the codec, the fields that each gives a frame, and its plan:
 //! the list of a frame's slots in the order of their bits.
+#![tactic(auto)]
 
 /// The nine modes, and what each gives a frame.
 pub mod mode;

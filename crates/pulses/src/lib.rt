@@ -1,4 +1,5 @@
 //! Signed pulses on a track, and the numbers that stand for sets of them.
+#![tactic(auto)]
 
 /// A pulse and its sign.
 pub mod pulse;

@@ -1,4 +1,5 @@
 //! Examples of indices written and read, and of each refusal.
+#![tactic(auto)]
 
 #[cfg(test)]
 mod tests {

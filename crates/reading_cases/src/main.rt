@@ -1,6 +1,7 @@
 //! Answers the cases that the independent model in C makes (`host/cases.c` has
 //! the form of the lines), so that the stored output, which is what the model
 //! said, is compared with what the library says.
+#![tactic(auto)]
 
 /// A line of input: what is to be read, and how.
 mod case;

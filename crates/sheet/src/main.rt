@@ -1,5 +1,6 @@
 //! Reads a message of octets from standard input, strictly, and prints its
 //! delay sheet.
+#![tactic(auto)]
 
 use carriers::memory::OctetReader;
 use sheets::sheet::sheet;

@@ -1,5 +1,6 @@
 //! The delay sheet of a message: the delays of all its subframes as lines of
 //! text, or the one line that tells why it is refused.
+#![tactic(auto)]
 
 /// A line of a sheet.
 pub mod line;
