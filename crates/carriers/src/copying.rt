@@ -19,7 +19,7 @@ use refusals::refusal::Refusal;
 /// `BufferTooShort` where `out` has too few octets. A refusal leaves `out` as
 /// it was.
 pub fn copy_octets<R: ReadCarrier>(carrier: &R, out: &mut [u8]) -> Result<usize, Refusal>
-    ensures copied { Copied (cells carrier.now) out.old result out.new }
+    ensures copied { Copied (R.cells carrier.now) out.old result out.new }
     ensures law { CheckAnswers }
 {
     check_cells(carrier)?;
@@ -33,7 +33,7 @@ pub fn copy_octets<R: ReadCarrier>(carrier: &R, out: &mut [u8]) -> Result<usize,
 
 // Whether every cell is a bit.
 fn check_cells<R: ReadCarrier>(carrier: &R) -> Result<(), Refusal>
-    ensures { result ≡ all_bits (cells carrier.now) }
+    ensures { result ≡ all_bits (R.cells carrier.now) }
 {
     for at in 0..carrier.len() {
         carrier.cell(at)?;
@@ -43,10 +43,10 @@ fn check_cells<R: ReadCarrier>(carrier: &R) -> Result<(), Refusal>
 
 // Writes the octets, of which there are as many as the cells take.
 fn fill<R: ReadCarrier>(carrier: &R, octets: usize, out: &mut [u8])
-    requires bits { all_bits (cells carrier.now) ≡ Ok tt }
-    requires count { octets ≡ octet_count (cells carrier.now) }
+    requires bits { all_bits (R.cells carrier.now) ≡ Ok tt }
+    requires count { octets ≡ octet_count (R.cells carrier.now) }
     requires room { octets ≤ length out.old }
-    ensures filled { table (octet_at out.new) (8 * octets) ≡ padded (cells carrier.now) }
+    ensures filled { table (octet_at out.new) (8 * octets) ≡ padded (R.cells carrier.now) }
     ensures beyond { drop octets out.new ≡ drop octets out.old }
 {
     for i in 0..octets {
@@ -56,9 +56,9 @@ fn fill<R: ReadCarrier>(carrier: &R, octets: usize, out: &mut [u8])
 
 // Octet `i` of the cells, filled up with zeros where they end.
 fn octet_at<R: ReadCarrier>(carrier: &R, i: usize) -> u8
-    requires bits { all_bits (cells carrier.now) ≡ Ok tt }
-    requires within { 8 * i < length (cells carrier.now) }
-    ensures { bits_of 8 result ≡ take 8 (drop (8 * i) (padded (cells carrier.now))) }
+    requires bits { all_bits (R.cells carrier.now) ≡ Ok tt }
+    requires within { 8 * i < length (R.cells carrier.now) }
+    ensures { bits_of 8 result ≡ take 8 (drop (8 * i) (padded (R.cells carrier.now))) }
 {
     let width = (carrier.len() - 8 * i).min(8) as u32;
     match read_bits(carrier, 8 * i, width) {

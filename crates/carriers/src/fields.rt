@@ -18,12 +18,12 @@ use refusals::refusal::Refusal;
 ///
 /// `put_bits(&mut carrier, 5, 4)` puts 0, 1, 0, 1.
 pub fn put_bits<C: WriteCarrier>(carrier: &mut C, value: u32, width: u32) -> Result<(), Refusal>
-    ensures fixed { room carrier.new ≡ room carrier.old }
-    ensures home { home carrier.new ≡ home carrier.old }
-    ensures put { PutBits (C.ReadCarrier.cells carrier.old) (room carrier.old) value width result (C.ReadCarrier.cells carrier.new) }
+    ensures fixed { C.room carrier.new ≡ C.room carrier.old }
+    ensures home { C.home carrier.new ≡ C.home carrier.old }
+    ensures put { PutBits (C.cells carrier.old) (C.room carrier.old) value width result (C.cells carrier.new) }
     ensures same { Untouched result carrier.old carrier.new }
-    ensures back { OnOk result (read_bits (C.ReadCarrier.cells carrier.new) (length (C.ReadCarrier.cells carrier.old)) width 0 ≡ Ok (value % 2 ^ width)) }
-    ensures kept { (at w v : ℕ) → read_bits (C.ReadCarrier.cells carrier.old) at w 0 ≡ Ok v → read_bits (C.ReadCarrier.cells carrier.new) at w 0 ≡ Ok v }
+    ensures back { OnOk result (read_bits (C.cells carrier.new) (length (C.cells carrier.old)) width 0 ≡ Ok (value % 2 ^ width)) }
+    ensures kept { (at w v : ℕ) → read_bits (C.cells carrier.old) at w 0 ≡ Ok v → read_bits (C.cells carrier.new) at w 0 ≡ Ok v }
     ensures all { FieldsReadBack }
 {
     put_field(carrier, value, width)
@@ -38,8 +38,8 @@ pub fn put_bits<C: WriteCarrier>(carrier: &mut C, value: u32, width: u32) -> Res
 ///
 /// Of the cells 0, 1, 0, 1, `read_bits(&carrier, 1, 3)` is 5.
 pub fn read_bits<R: ReadCarrier>(carrier: &R, at: usize, width: u32) -> Result<u32, Refusal>
-    ensures value { result ≡ low32 (read_bits (cells carrier.now) at width 0) }
-    ensures whole { width ≤ 32 → result ≡ read_bits (cells carrier.now) at width 0 }
+    ensures value { result ≡ low32 (read_bits (R.cells carrier.now) at width 0) }
+    ensures whole { width ≤ 32 → result ≡ read_bits (R.cells carrier.now) at width 0 }
     ensures cell { CellAnswers }
     ensures field { FieldAnswers }
     ensures refused { FieldRefusals }
@@ -59,9 +59,9 @@ fn bit_of(value: u32, place: u32) -> Bit
 }
 
 fn put_field<C: WriteCarrier>(carrier: &mut C, value: u32, width: u32) -> Result<(), Refusal>
-    ensures fixed { room carrier.new ≡ room carrier.old }
-    ensures home { home carrier.new ≡ home carrier.old }
-    ensures put { PutBits (C.ReadCarrier.cells carrier.old) (room carrier.old) value width result (C.ReadCarrier.cells carrier.new) }
+    ensures fixed { C.room carrier.new ≡ C.room carrier.old }
+    ensures home { C.home carrier.new ≡ C.home carrier.old }
+    ensures put { PutBits (C.cells carrier.old) (C.room carrier.old) value width result (C.cells carrier.new) }
     ensures same { Untouched result carrier.old carrier.new }
 {
     // asked first, so that a refusal leaves no part of the field
@@ -77,7 +77,7 @@ fn put_field<C: WriteCarrier>(carrier: &mut C, value: u32, width: u32) -> Result
 }
 
 fn read_field<R: ReadCarrier>(carrier: &R, at: usize, width: u32) -> Result<u32, Refusal>
-    ensures { result ≡ low32 (read_bits (cells carrier.now) at width 0) }
+    ensures { result ≡ low32 (read_bits (R.cells carrier.now) at width 0) }
 {
     let mut value = 0u32;
     let mut place = at;

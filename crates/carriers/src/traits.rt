@@ -51,7 +51,7 @@ pub trait WriteCarrier: ReadCarrier {
     fn put(&mut self, bit: Bit) -> Result<(), Refusal>
         ensures fixed { room self.new ≡ room self.old }
         ensures home { home self.new ≡ home self.old }
-        ensures put { Put (cells self.old) (room self.old) bit result (cells self.new) }
+        ensures put { Put (Self.cells self.old) (room self.old) bit result (Self.cells self.new) }
         ensures same { Untouched result self.old self.new };
 
     /// Keeps the first `n` cells.
@@ -60,6 +60,6 @@ pub trait WriteCarrier: ReadCarrier {
     fn cut(&mut self, n: usize) -> Result<(), Refusal>
         ensures fixed { room self.new ≡ room self.old }
         ensures home { home self.new ≡ home self.old }
-        ensures cut { Cut (cells self.old) n result (cells self.new) }
+        ensures cut { Cut (Self.cells self.old) n result (Self.cells self.new) }
         ensures same { Untouched result self.old self.new };
 }

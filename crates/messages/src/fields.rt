@@ -50,7 +50,7 @@ fn told_at(spot: Spot, answer: Result<u32, Refusal>) -> Result<u32, Refusal>
 /// The number in `width` cells; whichever of them is refused, the field is told.
 fn spelt<R: ReadCarrier>(carrier: &R, spot: Spot, at: usize, width: u8) -> Result<u32, Refusal>
     requires { width ≤ 32 }
-    ensures { result ≡ spotted spot (read_bits (cells carrier.now) at width 0) }
+    ensures { result ≡ spotted spot (read_bits (R.cells carrier.now) at width 0) }
 {
     told_at(spot, read_bits(carrier, at, width as u32))
 }
@@ -62,11 +62,11 @@ pub(crate) fn field<R: ReadCarrier>(
     at: usize,
     width: u8,
 ) -> Result<u32, Refusal>
-    requires within { at ≤ length (cells carrier.now) }
+    requires within { at ≤ length (R.cells carrier.now) }
     requires narrow { width ≤ 16 }
-    ensures is { result ≡ field_of (cells carrier.now) spot at width }
+    ensures is { result ≡ field_of (R.cells carrier.now) spot at width }
     ensures fits { IfOk result (λ v. v < 2 ^ width) }
-    ensures inside { IfOk result (λ v. at + width ≤ length (cells carrier.now)) }
+    ensures inside { IfOk result (λ v. at + width ≤ length (R.cells carrier.now)) }
 {
     spelt(carrier, spot, at, width)
 }
@@ -81,16 +81,16 @@ fn filler(at: usize) -> u8
 
 /// The number in the fill cells, all of which are read.
 fn fill<R: ReadCarrier>(carrier: &R, spot: Spot, at: usize) -> Result<u32, Refusal>
-    requires { at ≤ length (cells carrier.now) }
-    ensures { result ≡ field_of (cells carrier.now) spot at (fillerOf at) }
+    requires { at ≤ length (R.cells carrier.now) }
+    ensures { result ≡ field_of (R.cells carrier.now) spot at (fillerOf at) }
 {
     field(carrier, spot, at, filler(at))
 }
 
 /// What comes after 1111.
 pub(crate) fn ending<R: ReadCarrier>(carrier: &R, frame: u32, at: usize) -> Result<(), Refusal>
-    requires { at ≤ length (cells carrier.now) }
-    ensures { result ≡ endingAt (cells carrier.now) frame at }
+    requires { at ≤ length (R.cells carrier.now) }
+    ensures { result ≡ endingAt (R.cells carrier.now) frame at }
 {
     let spot = bare(frame, at);
     let value = fill(carrier, spot, at)?;

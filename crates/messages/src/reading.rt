@@ -26,7 +26,7 @@ use std::alloc::Global;
 ///
 /// The message of no frame is the octet 0xF0.
 pub fn read_message<R: ReadCarrier>(how: Reading, carrier: &R) -> Result<usize, Refusal>
-    ensures answer { result ≡ counted (read_frames how (cells carrier.now)) }
+    ensures answer { result ≡ counted (read_frames how (R.cells carrier.now)) }
     ensures reads_messages { ReadsMessages }
     ensures reads_by_indices { ReadsByIndices }
     ensures strict_is_open { StrictIsOpen }
@@ -44,7 +44,7 @@ pub fn read_message<R: ReadCarrier>(how: Reading, carrier: &R) -> Result<usize, 
 /// Refused as [`read_message`] is, and then, without a spot, where the message
 /// has no such frame (`Cause::NoSuchFrame`).
 pub fn read_frame<R: ReadCarrier>(how: Reading, carrier: &R, n: usize) -> Result<Frame, Refusal>
-    ensures answer { Returned (read_frames how (cells carrier.now)) n result }
+    ensures answer { Returned (read_frames how (R.cells carrier.now)) n result }
     ensures returns_frames { ReturnsFrames }
 {
     pick_frame(how, carrier, n)
@@ -59,8 +59,8 @@ pub fn read_frames<R: ReadCarrier>(
     carrier: &R,
     heap: Global,
 ) -> Result<Vec<Frame>, ReadError>
-    ensures answer { Gathered (read_frames how (cells carrier.now)) result }
-    ensures handed { IfOk result (λ v. HandsOut how (cells carrier.now) v.items) }
+    ensures answer { Gathered (read_frames how (R.cells carrier.now)) result }
+    ensures handed { IfOk result (λ v. HandsOut how (R.cells carrier.now) v.items) }
     ensures hands_out_messages { HandsOutMessages }
     ensures hands_out_by_indices { HandsOutByIndices }
 {
@@ -69,7 +69,7 @@ pub fn read_frames<R: ReadCarrier>(
 
 /// How many frames a message has.
 fn count_frames<R: ReadCarrier>(how: Reading, carrier: &R) -> Result<usize, Refusal>
-    ensures { result ≡ counted (read_frames how (cells carrier.now)) }
+    ensures { result ≡ counted (read_frames how (R.cells carrier.now)) }
 {
     let seen = scan(how, carrier, 512)?;
     Ok(seen.count as usize)
@@ -77,7 +77,7 @@ fn count_frames<R: ReadCarrier>(how: Reading, carrier: &R) -> Result<usize, Refu
 
 /// One frame of a message.
 fn pick_frame<R: ReadCarrier>(how: Reading, carrier: &R, n: usize) -> Result<Frame, Refusal>
-    ensures { Returned (read_frames how (cells carrier.now)) n result }
+    ensures { Returned (read_frames how (R.cells carrier.now)) n result }
 {
     let seen = scan(how, carrier, n)?;
     match seen.frame {

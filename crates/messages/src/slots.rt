@@ -121,11 +121,11 @@ fn slot_value<R: ReadCarrier>(
     slot: Slot,
     values: &[u16; 57],
 ) -> Result<u32, Refusal>
-    requires inside { at ≤ length (cells carrier.now) }
+    requires inside { at ≤ length (R.cells carrier.now) }
     requires narrow { slot.width ≤ 16 }
-    ensures is { result ≡ read_slot how (cells carrier.now) mode frame at slot values.now }
+    ensures is { result ≡ read_slot how (R.cells carrier.now) mode frame at slot values.now }
     ensures fits { IfOk result (λ v. v < 2 ^ slot.width) }
-    ensures inside { IfOk result (λ v. at + slot.width ≤ length (cells carrier.now)) }
+    ensures inside { IfOk result (λ v. at + slot.width ≤ length (R.cells carrier.now)) }
 {
     let spot = spot_of(frame, slot.part, at);
     let value = field(carrier, spot, at, slot.width)?;
@@ -146,11 +146,11 @@ pub(crate) fn read_slots<R: ReadCarrier>(
     frame: u32,
     start: usize,
 ) -> Result<Body, Refusal>
-    requires inside { start ≤ length (cells carrier.now) }
-    ensures is { values_of result ≡ read_slots how (cells carrier.now) mode frame start (plan mode) blank }
+    requires inside { start ≤ length (R.cells carrier.now) }
+    ensures is { values_of result ≡ read_slots how (R.cells carrier.now) mode frame start (plan mode) blank }
     ensures mode { IfOk result (λ b. b.mode ≡ mode) }
     ensures end { IfOk result (λ b. b.end ≡ start + total (plan mode)) }
-    ensures inside { IfOk result (λ b. b.end ≤ length (cells carrier.now)) }
+    ensures inside { IfOk result (λ b. b.end ≤ length (R.cells carrier.now)) }
 {
     let mut values = [0u16; 57];
     let mut at = start;

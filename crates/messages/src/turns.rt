@@ -57,9 +57,9 @@ fn next_frame<R: ReadCarrier>(
     at: usize,
 ) -> Result<Option<Body>, Refusal>
     requires few { n ≤ 512 }
-    requires inside { at ≤ length (cells carrier.now) }
-    ensures is { framed_of result ≡ next_frame how (cells carrier.now) (512 - n) n at }
-    ensures on { Onward (length (cells carrier.now)) n at result }
+    requires inside { at ≤ length (R.cells carrier.now) }
+    ensures is { framed_of result ≡ next_frame how (R.cells carrier.now) (512 - n) n at }
+    ensures on { Onward (length (R.cells carrier.now)) n at result }
 {
     let spot = bare(n, at);
     let number = field(carrier, spot, at, 4)?;
@@ -93,7 +93,7 @@ pub(crate) fn scan<R: ReadCarrier>(
     carrier: &R,
     wanted: usize,
 ) -> Result<Scan, Refusal>
-    ensures { told result ≡ seen wanted (read_frames how (cells carrier.now)) }
+    ensures { told result ≡ seen wanted (read_frames how (R.cells carrier.now)) }
 {
     let mut frame = None;
     let mut n = 0u32;
@@ -112,7 +112,7 @@ pub(crate) fn gather<R: ReadCarrier>(
     carrier: &R,
     heap: Global,
 ) -> Result<Vec<Frame>, ReadError>
-    ensures { Gathered (read_frames how (cells carrier.now)) result }
+    ensures { Gathered (read_frames how (R.cells carrier.now)) result }
 {
     let mut frames = Vec::new(heap);
     let mut n = 0u32;

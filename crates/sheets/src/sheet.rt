@@ -83,7 +83,7 @@ fn add_refusal(text: &mut String, error: ReadError) -> Result<(), AllocError>
 /// Seventeen octets 0x00 and one 0xF0 have the lines `D 0 0 136 2656`, the
 /// same for subframes 1 to 3, and `E 1`, with tabs for blanks.
 pub fn sheet<R: ReadCarrier>(carrier: &R, heap: Global) -> Result<String, AllocError>
-    ensures { IfOk result (λ t. Printed (cells carrier.now) (string_bytes t)) }
+    ensures { IfOk result (λ t. Printed (R.cells carrier.now) (string_bytes t)) }
 {
     let mut text = String::new(heap);
     match read_frames(Reading::Strict, carrier, heap) {

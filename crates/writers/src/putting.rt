@@ -16,10 +16,10 @@ use modes::plan::Part;
 
 /// Puts a field for which there is room.
 fn put_field<C: WriteCarrier>(carrier: &mut C, value: u32, width: u32)
-    requires { length (C.ReadCarrier.cells carrier.old) + width ≤ room carrier.old }
-    ensures fixed { room carrier.new ≡ room carrier.old }
-    ensures home { home carrier.new ≡ home carrier.old }
-    ensures put { C.ReadCarrier.cells carrier.new ≡ C.ReadCarrier.cells carrier.old ++ bits_of width value }
+    requires { length (C.cells carrier.old) + width ≤ C.room carrier.old }
+    ensures fixed { C.room carrier.new ≡ C.room carrier.old }
+    ensures home { C.home carrier.new ≡ C.home carrier.old }
+    ensures put { C.cells carrier.new ≡ C.cells carrier.old ++ bits_of width value }
 {
     let _ = put_bits(carrier, value, width);
 }
@@ -53,10 +53,10 @@ fn part_value(frame: &Frame, indices: &[u32; 16], part: Part) -> u32
 
 /// Puts the bits of a frame along its plan.
 fn put_slots<C: WriteCarrier>(carrier: &mut C, frame: &Frame)
-    requires { length (C.ReadCarrier.cells carrier.old) + total (plan frame.now.mode) ≤ room carrier.old }
-    ensures fixed { room carrier.new ≡ room carrier.old }
-    ensures home { home carrier.new ≡ home carrier.old }
-    ensures put { C.ReadCarrier.cells carrier.new ≡ C.ReadCarrier.cells carrier.old ++ as_cells (frame_bits frame.now) }
+    requires { length (C.cells carrier.old) + total (plan frame.now.mode) ≤ C.room carrier.old }
+    ensures fixed { C.room carrier.new ≡ C.room carrier.old }
+    ensures home { C.home carrier.new ≡ C.home carrier.old }
+    ensures put { C.cells carrier.new ≡ C.cells carrier.old ++ as_cells (frame_bits frame.now) }
 {
     let indices = frame.indices();
     let mode = frame.mode();
@@ -73,10 +73,10 @@ fn put_slots<C: WriteCarrier>(carrier: &mut C, frame: &Frame)
 
 /// Puts the mode of a frame and its bits.
 pub(crate) fn put_frame<C: WriteCarrier>(carrier: &mut C, frame: &Frame)
-    requires { length (C.ReadCarrier.cells carrier.old) + 4 + total (plan frame.now.mode) ≤ room carrier.old }
-    ensures fixed { room carrier.new ≡ room carrier.old }
-    ensures home { home carrier.new ≡ home carrier.old }
-    ensures put { C.ReadCarrier.cells carrier.new ≡ C.ReadCarrier.cells carrier.old ++ frame_cells frame.now }
+    requires { length (C.cells carrier.old) + 4 + total (plan frame.now.mode) ≤ C.room carrier.old }
+    ensures fixed { C.room carrier.new ≡ C.room carrier.old }
+    ensures home { C.home carrier.new ≡ C.home carrier.old }
+    ensures put { C.cells carrier.new ≡ C.cells carrier.old ++ frame_cells frame.now }
 {
     put_field(carrier, frame.mode().number() as u32, 4);
     put_slots(carrier, frame);
@@ -92,10 +92,10 @@ pub(crate) fn filler(at: usize) -> u32
 
 /// Puts 1111, and zeros up to a multiple of eight.
 pub(crate) fn put_end<C: WriteCarrier>(carrier: &mut C)
-    requires { length (C.ReadCarrier.cells carrier.old) + 4 + fillerOf (length (C.ReadCarrier.cells carrier.old) + 4) ≤ room carrier.old }
-    ensures fixed { room carrier.new ≡ room carrier.old }
-    ensures home { home carrier.new ≡ home carrier.old }
-    ensures put { C.ReadCarrier.cells carrier.new ≡ ended (C.ReadCarrier.cells carrier.old) }
+    requires { length (C.cells carrier.old) + 4 + fillerOf (length (C.cells carrier.old) + 4) ≤ C.room carrier.old }
+    ensures fixed { C.room carrier.new ≡ C.room carrier.old }
+    ensures home { C.home carrier.new ≡ C.home carrier.old }
+    ensures put { C.cells carrier.new ≡ ended (C.cells carrier.old) }
 {
     let fill = filler(carrier.len() + 4);
     put_field(carrier, 15, 4);

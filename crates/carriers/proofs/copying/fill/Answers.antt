@@ -10,8 +10,8 @@ loop-i-init g c = (table_none _, refl)
 pub loop-i-preserved : goal.loop-i-preserved
 loop-i-preserved g c =
     let cs = g.R.ReadCarrier.cells c.args.carrier.now in (
-      octet_more c.loop-i.out (padded cs) c.loop-i.i c.octet-at.result (omega arith) c.loop-i.invariant.0 c.octet-at.ensures,
-      drop-set-lt c.args.octets c.loop-i.out c.loop-i.i c.octet-at.result (omega arith) ∙ c.loop-i.invariant.1,
+      octet_more c.loop-i.out (padded cs) c.loop-i.i c.octet_at.result (omega arith) c.loop-i.invariant.0 c.octet_at.ensures,
+      drop-set-lt c.args.octets c.loop-i.out c.loop-i.i c.octet_at.result (omega arith) ∙ c.loop-i.invariant.1,
     )
 
 pub returns : goal.returns

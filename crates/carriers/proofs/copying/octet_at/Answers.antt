@@ -3,8 +3,8 @@ use Rattle.carriers.proofs.Checks.{check_field}
 use Rattle.carriers.proofs.Padding.{octet_fits, octet_read}
 use Rattle.carriers.proofs.copying.octet_at.Goals as goal
 
-pub overflow-cast-result : goal.overflow-cast-result
-overflow-cast-result g c =
+pub overflow_cast-result : goal.overflow_cast-result
+overflow_cast-result g c =
     let cs = g.R.ReadCarrier.cells c.args.carrier.now in
     let w : ℕ = c.min-width.result in
     let is : w ≡ min (length cs - 8 * c.args.i) 8 = omega arith in

@@ -4,7 +4,7 @@ use Rattle.carriers.proofs.fields.read_bits.Goals as goal
 
 pub returns : goal.returns
 returns g c =
-    let said = c.read-field.ensures in
+    let said = c.read_field.ensures in
     record {
       value = said;
       whole = λ h. said ∙ whole (g.R.ReadCarrier.cells c.args.carrier.now) c.args.at c.args.width h;

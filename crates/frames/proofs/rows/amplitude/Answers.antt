@@ -10,9 +10,9 @@ pub loop-k-init : goal.loop-k-init
 unfolding amplitude_at
 loop-k-init c = (refl, omega arith)
 
-pub overflow-add-sum : goal.overflow-add-sum
+pub overflow_add-sum : goal.overflow_add-sum
 unfolding amplitude_at
-overflow-add-sum c =
+overflow_add-sum c =
     let ps = take c.loop-k.k c.args.row.now in
     let x = c.args.place in
     sum_fits _ _ c.step-sum.result (tally ps x Plus) (tally ps x Minus) c.loop-k.k c.loop-k.invariant.0 c.loop-k.invariant.1 (omega arith) c.step-sum.ensures

@@ -8,7 +8,7 @@ use Rattle.messages.proofs.reading.read_message.Goals as goal
 
 pub returns : goal.returns
 returns g c = record {
-  answer = c.count-frames.ensures;
+  answer = c.count_frames.ensures;
   reads_messages = reads_messages;
   reads_by_indices = reads_by_indices;
   strict_is_open = reads_open;

@@ -22,8 +22,8 @@ returns-in-High c f st =
     let P : Part → Type 0 = λ p. Copied f to to p in
     subst P (sym c.in-High.is) (by_none f to _ _)
 
-pub put-track-requires : goal.put-track-requires
-put-track-requires c = record {
+pub put_track-requires : goal.put_track-requires
+put_track-requires c = record {
   fine = c.requires.fine;
   narrow = c.requires.narrow;
   has = c.requires.has;
@@ -34,5 +34,5 @@ put-track-requires c = record {
 pub returns-in-Low : goal.returns-in-Low
 returns-in-Low c f st =
     let to = c.args.built.now in
-    let P : Part → Type 0 = λ p. Copied f to c.put-track.new.built p in
-    subst P (sym c.in-Low.is) (by_track f to c.put-track.new.built _ _ (c.put-track.ensures f st))
+    let P : Part → Type 0 = λ p. Copied f to c.put_track.new.built p in
+    subst P (sym c.in-Low.is) (by_track f to c.put_track.new.built _ _ (c.put_track.ensures f st))

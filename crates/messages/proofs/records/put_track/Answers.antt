@@ -15,12 +15,12 @@ joined-requires c =
 pub returns-in-Ok : goal.returns-in-Ok
 returns-in-Ok c f st =
     let a = c.args in
-    track_put a.how (content_of a.body.now) a.s a.t c.pulses-in-n.result c.track-width-places.result c.joined.result a.width c.place.result c.place-2.result c.requires.fine c.requires.has c.requires.wide
-    c.pulses-in-n.ensures.is c.track-width-places.ensures.is c.place.ensures.is c.place-2.ensures.is c.joined.ensures
-    f a.built.now c.set-track.new.self c.in-Ok.n (replicate 6 none) c.read_index_lem.new.out c.set-track.result st c.requires.mode refl c.in-Ok.ensures.answer c.in-Ok.ensures.buffer c.set-track.ensures
+    track_put a.how (content_of a.body.now) a.s a.t c.pulses_in-n.result c.track_width-places.result c.joined.result a.width c.place.result c.place-2.result c.requires.fine c.requires.has c.requires.wide
+    c.pulses_in-n.ensures.is c.track_width-places.ensures.is c.place.ensures.is c.place-2.ensures.is c.joined.ensures
+    f a.built.now c.set_track.new.self c.in-Ok.n (replicate 6 none) c.read_index.new.out c.set_track.result st c.requires.mode refl c.in-Ok.ensures.answer c.in-Ok.ensures.buffer c.set_track.ensures
 
-pub returns-in-default : goal.returns-in-default
-returns-in-default c f st =
+pub returns-in_default : goal.returns-in_default
+returns-in_default c f st =
     let a = c.args in
-    absurd (never_refused a.how (content_of a.body.now) a.s a.t c.pulses-in-n.result c.track-width-places.result c.joined.result a.width c.place.result c.place-2.result c.requires.fine c.requires.has c.requires.wide
-    c.pulses-in-n.ensures.is c.track-width-places.ensures.is c.place.ensures.is c.place-2.ensures.is c.joined.ensures _ c.in-default.ensures.answer)
+    absurd (never_refused a.how (content_of a.body.now) a.s a.t c.pulses_in-n.result c.track_width-places.result c.joined.result a.width c.place.result c.place-2.result c.requires.fine c.requires.has c.requires.wide
+    c.pulses_in-n.ensures.is c.track_width-places.ensures.is c.place.ensures.is c.place-2.ensures.is c.joined.ensures _ c.in_default.ensures.answer)

@@ -13,8 +13,8 @@ loop-slot-init c =
     let em : g.mode ≡ m = c.of-built.ensures.mode in
     (omega arith, em, λ f st p a. parts_start m f g st.mode em p a)
 
-pub put-slot-requires : goal.put-slot-requires
-put-slot-requires c =
+pub put_slot-requires : goal.put_slot-requires
+put_slot-requires c =
     let m = c.args.body.now.mode in
     let e = c.in-Some.ensures.is in
     let w = slot_wide m c.loop-slot.k c.in-Some.slot e in
@@ -34,8 +34,8 @@ loop-slot-preserved c =
     let s : Sound l.k c.in-Some.slot = slot_sound m l.k c.in-Some.slot e in
     let b = content_of c.args.body.now in
     let f₀ = record_of c.args.how b c.requires in
-    let d = c.put-slot.ensures f₀ (stands c.args.how b c.requires) in
-    (omega (arith, s.1), d.mode ∙ l.invariant.1, λ f st. parts_more m l.k c.in-Some.slot f l.built c.put-slot.new.built e (c.put-slot.ensures f st) (l.invariant.2 f st))
+    let d = c.put_slot.ensures f₀ (stands c.args.how b c.requires) in
+    (omega (arith, s.1), d.mode ∙ l.invariant.1, λ f st. parts_more m l.k c.in-Some.slot f l.built c.put_slot.new.built e (c.put_slot.ensures f st) (l.invariant.2 f st))
 
 pub returns : goal.returns
 returns c =
@@ -44,4 +44,4 @@ returns c =
     let b = content_of c.args.body.now in
     let f = record_of c.args.how b c.requires in
     let st : Stands b f = stands c.args.how b c.requires in
-    parts_all m l.k b f l.built c.in-default.ensures.is st (l.invariant.1 ∙ sym st.mode) (l.invariant.2 f st)
+    parts_all m l.k b f l.built c.in_default.ensures.is st (l.invariant.1 ∙ sym st.mode) (l.invariant.2 f st)

@@ -8,30 +8,30 @@ use Rattle.messages.proofs.Turning.{turn_stop, turn_by, turn_end, turn_refuse, t
 use Rattle.messages.proofs.Turned.{begun_frame}
 use Rattle.messages.proofs.turns.next_frame.Goals as goal
 
-pub returns-in-err-number : goal.returns-in-err-number
-returns-in-err-number g c =
+pub returns-in_err-number : goal.returns-in_err-number
+returns-in_err-number g c =
     let a = c.args in
-    let p = err_from_is_err_and c.from-residual.result c.from-residual.ensures.1 in
-    rw (p.1, p.2) (record { is = turn_stop a.how (g.R.ReadCarrier.cells a.carrier.now) (512 - a.n) a.n a.at c.bare-spot.result c.bare-spot.ensures _ c.in-err-number.ensures.is; on = tt })
+    let p = err_from_is_err_and c.from_residual.result c.from_residual.ensures.1 in
+    rw (p.1, p.2) (record { is = turn_stop a.how (g.R.ReadCarrier.cells a.carrier.now) (512 - a.n) a.n a.at c.bare-spot.result c.bare-spot.ensures _ c.in_err-number.ensures.is; on = tt })
 
-pub returns-in-err-ending : goal.returns-in-err-ending
-returns-in-err-ending g c =
+pub returns-in_err-ending : goal.returns-in_err-ending
+returns-in_err-ending g c =
     let a = c.args in
     let cells = g.R.ReadCarrier.cells a.carrier.now in
-    let p = err_from_is_err_and c.from-residual-in-err-ending.result c.from-residual-in-err-ending.ensures.1 in
+    let p = err_from_is_err_and c.from_residual-in_err-ending.result c.from_residual-in_err-ending.ensures.1 in
     rw (p.1, p.2) (record {
-      is = turn_end a.how cells a.n a.at (Err _) c.in-err-ending.ensures
-          ∙ turn_by a.how cells (512 - a.n) a.n a.at c.bare-spot.result c.bare-spot.ensures c.in-ok-number.number End c.in-ok-number.ensures.is c.in-End.ensures;
+      is = turn_end a.how cells a.n a.at (Err _) c.in_err-ending.ensures
+          ∙ turn_by a.how cells (512 - a.n) a.n a.at c.bare-spot.result c.bare-spot.ensures c.in_ok-number.number End c.in_ok-number.ensures.is c.in-End.ensures;
       on = tt;
     })
 
-pub returns-in-ok-ending : goal.returns-in-ok-ending
-returns-in-ok-ending g c =
+pub returns-in_ok-ending : goal.returns-in_ok-ending
+returns-in_ok-ending g c =
     let a = c.args in
     let cells = g.R.ReadCarrier.cells a.carrier.now in
     record {
-      is = turn_end a.how cells a.n a.at (Ok tt) c.in-ok-ending.ensures
-          ∙ turn_by a.how cells (512 - a.n) a.n a.at c.bare-spot.result c.bare-spot.ensures c.in-ok-number.number End c.in-ok-number.ensures.is c.in-End.ensures;
+      is = turn_end a.how cells a.n a.at (Ok tt) c.in_ok-ending.ensures
+          ∙ turn_by a.how cells (512 - a.n) a.n a.at c.bare-spot.result c.bare-spot.ensures c.in_ok-number.number End c.in_ok-number.ensures.is c.in-End.ensures;
       on = tt;
     }
 
@@ -41,34 +41,34 @@ returns-in-Refused g c =
     let cells = g.R.ReadCarrier.cells a.carrier.now in
     record {
       is = turn_refuse a.how cells a.n a.at c.in-Refused.cause c.bare-spot.result c.bare-spot.ensures
-          ∙ turn_by a.how cells (512 - a.n) a.n a.at c.bare-spot.result c.bare-spot.ensures c.in-ok-number.number (Refused c.in-Refused.cause) c.in-ok-number.ensures.is c.in-Refused.ensures;
+          ∙ turn_by a.how cells (512 - a.n) a.n a.at c.bare-spot.result c.bare-spot.ensures c.in_ok-number.number (Refused c.in-Refused.cause) c.in_ok-number.ensures.is c.in-Refused.ensures;
       on = tt;
     }
 
-pub returns-in-err-body : goal.returns-in-err-body
-returns-in-err-body g c =
+pub returns-in_err-body : goal.returns-in_err-body
+returns-in_err-body g c =
     let a = c.args in
     let cells = g.R.ReadCarrier.cells a.carrier.now in
     let m = c.in-Frame.mode in
-    let p = err_from_is_err_and c.from-residual-in-err-body.result c.from-residual-in-err-body.ensures.1 in
+    let p = err_from_is_err_and c.from_residual-in_err-body.result c.from_residual-in_err-body.ensures.1 in
     rw (p.1, p.2) (record {
-      is = turn_frame a.how cells a.n a.at m (Err _) c.in-err-body.ensures.is
-          ∙ turn_by a.how cells (512 - a.n) a.n a.at c.bare-spot.result c.bare-spot.ensures c.in-ok-number.number (Frame m) c.in-ok-number.ensures.is c.in-Frame.ensures;
+      is = turn_frame a.how cells a.n a.at m (Err _) c.in_err-body.ensures.is
+          ∙ turn_by a.how cells (512 - a.n) a.n a.at c.bare-spot.result c.bare-spot.ensures c.in_ok-number.number (Frame m) c.in_ok-number.ensures.is c.in-Frame.ensures;
       on = tt;
     })
 
-pub returns-in-ok-body : goal.returns-in-ok-body
-returns-in-ok-body g c =
+pub returns-in_ok-body : goal.returns-in_ok-body
+returns-in_ok-body g c =
     let a = c.args in
     let cells = g.R.ReadCarrier.cells a.carrier.now in
     let m = c.in-Frame.mode in
-    let b = c.in-ok-body.body in
-    let said = c.in-ok-body.ensures in
-    let more = begun_frame (512 - a.n) c.in-ok-number.number m c.in-Frame.ensures in
+    let b = c.in_ok-body.body in
+    let said = c.in_ok-body.ensures in
+    let more = begun_frame (512 - a.n) c.in_ok-number.number m c.in-Frame.ensures in
     let less : a.n < 512 = omega arith in
     record {
       is = ap (λ (x : Mode). Ok (Some (content x b.values))) said.mode
           ∙ turn_frame a.how cells a.n a.at m (Ok b.values) said.is
-          ∙ turn_by a.how cells (512 - a.n) a.n a.at c.bare-spot.result c.bare-spot.ensures c.in-ok-number.number (Frame m) c.in-ok-number.ensures.is c.in-Frame.ensures;
+          ∙ turn_by a.how cells (512 - a.n) a.n a.at c.bare-spot.result c.bare-spot.ensures c.in_ok-number.number (Frame m) c.in_ok-number.ensures.is c.in-Frame.ensures;
       on = (less, said.end ∙ ap (λ m. a.at + 4 + total (plan m)) (sym said.mode), said.inside);
     }

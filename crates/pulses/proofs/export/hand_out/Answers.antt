@@ -18,11 +18,11 @@ returns-then-out-number c =
       buffer = sym (filled_short c.args.pulses.now c.args.out.now (omega arith));
     }
 
-pub octet-of-requires : goal.octet-of-requires
-octet-of-requires c = All-get_or (λ p. p.place < 2 ^ 5) c.args.pulses.now c.loop-i.i none (omega arith) c.requires.1
+pub octet_of-requires : goal.octet_of-requires
+octet_of-requires c = All-get_or (λ p. p.place < 2 ^ 5) c.args.pulses.now c.loop-i.i none (omega arith) c.requires.1
 
 pub loop-i-preserved : goal.loop-i-preserved
-loop-i-preserved c = octets_more c.args.pulses.now c.args.out.now c.loop-i.out c.loop-i.i c.octet-of.result (omega arith) (omega arith) c.loop-i.invariant c.octet-of.ensures
+loop-i-preserved c = octets_more c.args.pulses.now c.args.out.now c.loop-i.out c.loop-i.i c.octet_of.result (omega arith) (omega arith) c.loop-i.invariant c.octet_of.ensures
 
 pub returns : goal.returns
 returns c =

@@ -8,7 +8,7 @@ pub loop-i-preserved : goal.loop-i-preserved
 loop-i-preserved c =
     let row = c.loop-i.row in
     let i = c.loop-i.i in
-    (simp length-set c.loop-i.invariant.0, pulses_more row c.args.octets.now i c.pulse-of.result (omega arith) (omega arith) c.loop-i.invariant.1 c.pulse-of.ensures)
+    (simp length-set c.loop-i.invariant.0, pulses_more row c.args.octets.now i c.pulse_of.result (omega arith) (omega arith) c.loop-i.invariant.1 c.pulse_of.ensures)
 
 pub returns : goal.returns
 returns c =

@@ -15,22 +15,22 @@ taken : (how way : Reading) (n M i k : ℕ) (row : List Pulse) (r : Result ℕ R
 taken how way n M i k row r e h f o =
     let P : Reading → Type 0 = λ z. Front z n M i k row in subst P e (front how n M i k row (sym h ∙ o) f)
 
-pub hand-out-requires : goal.hand-out-requires
-hand-out-requires c =
-    let f = taken c.way.result (way_of c.args.strict) c.args.pulses c.args.width c.args.index c.in-Ok.number c.read_index_lem.new.out c.read_index_lem.result
-    c.way.ensures c.read_index_lem.ensures.answer c.read_index_lem.ensures.buffer c.in-Ok.is in
+pub hand_out-requires : goal.hand_out-requires
+hand_out-requires c =
+    let f = taken c.way.result (way_of c.args.strict) c.args.pulses c.args.width c.args.index c.in-Ok.number c.read_index.new.out c.read_index.result
+    c.way.ensures c.read_index.ensures.answer c.read_index.ensures.buffer c.in-Ok.is in
     let z : c.in-Ok.number - 0 ≡ c.in-Ok.number = omega arith in
     rw z (f.few, f.on)
 
 pub returns-in-Ok : goal.returns-in-Ok
 returns-in-Ok c =
-    let f = taken c.way.result (way_of c.args.strict) c.args.pulses c.args.width c.args.index c.in-Ok.number c.read_index_lem.new.out c.read_index_lem.result
-    c.way.ensures c.read_index_lem.ensures.answer c.read_index_lem.ensures.buffer c.in-Ok.is in
+    let f = taken c.way.result (way_of c.args.strict) c.args.pulses c.args.width c.args.index c.in-Ok.number c.read_index.new.out c.read_index.result
+    c.way.ensures c.read_index.ensures.answer c.read_index.ensures.buffer c.in-Ok.is in
     let z : c.in-Ok.number - 0 ≡ c.in-Ok.number = omega arith in
-    let s : SFits w32 c.hand-out.result = search rules in
+    let s : SFits w32 c.hand_out.result = search rules in
     record {
-      answer = to_z-of_z w32 c.hand-out.result s ∙ rw z at c.hand-out.ensures.answer ∙ ap (λ r. answer_of (handed (length c.args.out.now) r)) (sym f.read);
-      buffer = rw z at c.hand-out.ensures.buffer ∙ ap (filled_octets c.args.out.now) (sym f.read);
+      answer = to_z-of_z w32 c.hand_out.result s ∙ rw z at c.hand_out.ensures.answer ∙ ap (λ r. answer_of (handed (length c.args.out.now) r)) (sym f.read);
+      buffer = rw z at c.hand_out.ensures.buffer ∙ ap (filled_octets c.args.out.now) (sym f.read);
     }
 
 pub returns-in-Err : goal.returns-in-Err
@@ -40,7 +40,7 @@ returns-in-Err c =
     let i = c.args.index in
     let how = c.way.result in
     let e : read_index how n M i ≡ Err c.in-Err.refusal =
-    handed_err 6 (read_index how n M i) c.in-Err.refusal (sym c.read_index_lem.ensures.answer ∙ c.in-Err.is) (λ ps h. (read_fits how n M i ps h).few) in
+    handed_err 6 (read_index how n M i) c.in-Err.refusal (sym c.read_index.ensures.answer ∙ c.in-Err.is) (λ ps h. (read_fits how n M i ps h).few) in
     let f : read_index (way_of c.args.strict) n M i ≡ Err c.in-Err.refusal = ap (λ z. read_index z n M i) (sym c.way.ensures) ∙ e in
     let s : SFits w32 c.refused.result = search rules in
     record {

@@ -22,20 +22,20 @@ returns-then-octets-gt6 c =
 small : (M : ℕ) (row : List Pulse) (os : List ℕ) (i : ℕ) (r : Result ℕ Refusal) → take (length os) row ≡ map pulse_of os → r ≡ write_index M (take (length os - 0) row) → r ≡ Ok i → i < 2 ^ 31
 small M row os i r e h k = index_small M (map pulse_of os) i (asked M row os r (Ok i) e h k)
 
-pub overflow-cast-result : goal.overflow-cast-result
-overflow-cast-result c =
-    let l = small c.args.width c.pulses-of-row.result c.args.octets.now c.in-Ok.index c.write-index.result c.pulses-of-row.ensures c.write-index.ensures.answer c.in-Ok.is in
+pub overflow_cast-result : goal.overflow_cast-result
+overflow_cast-result c =
+    let l = small c.args.width c.pulses_of-row.result c.args.octets.now c.in-Ok.index c.write_index.result c.pulses_of-row.ensures c.write_index.ensures.answer c.in-Ok.is in
     search rules
 
 pub returns-in-Ok : goal.returns-in-Ok
 returns-in-Ok c =
     let M = c.args.width in
-    let l = small M c.pulses-of-row.result c.args.octets.now c.in-Ok.index c.write-index.result c.pulses-of-row.ensures c.write-index.ensures.answer c.in-Ok.is in
+    let l = small M c.pulses_of-row.result c.args.octets.now c.in-Ok.index c.write_index.result c.pulses_of-row.ensures c.write_index.ensures.answer c.in-Ok.is in
     to_z_pos w32 c.in-Ok.index l
-    ∙ sym (ap answer_of (asked M c.pulses-of-row.result c.args.octets.now c.write-index.result (Ok c.in-Ok.index) c.pulses-of-row.ensures c.write-index.ensures.answer c.in-Ok.is))
+    ∙ sym (ap answer_of (asked M c.pulses_of-row.result c.args.octets.now c.write_index.result (Ok c.in-Ok.index) c.pulses_of-row.ensures c.write_index.ensures.answer c.in-Ok.is))
 
 pub returns-in-Err : goal.returns-in-Err
 returns-in-Err c =
     let f : SFits w32 c.refused-in-Err.result = search rules in
     to_z-of_z w32 c.refused-in-Err.result f ∙ c.refused-in-Err.ensures
-    ∙ sym (ap answer_of (asked c.args.width c.pulses-of-row.result c.args.octets.now c.write-index.result (Err c.in-Err.refusal) c.pulses-of-row.ensures c.write-index.ensures.answer c.in-Err.is))
+    ∙ sym (ap answer_of (asked c.args.width c.pulses_of-row.result c.args.octets.now c.write_index.result (Err c.in-Err.refusal) c.pulses_of-row.ensures c.write_index.ensures.answer c.in-Err.is))

@@ -7,8 +7,8 @@ returns c =
     let M = c.args.width in
     let i = c.args.index in
     record {
-      answer = c.read-into.ensures.answer;
-      buffer = c.read-into.ensures.buffer;
+      answer = c.read_into.ensures.answer;
+      buffer = c.read_into.ensures.buffer;
       reads_by_the_rules = reads_by_the_rules c.args.how n M i;
       every_number_has_one_set = every_number_has_one_set n M i;
       strict_is_open = strict_is_open n M i;

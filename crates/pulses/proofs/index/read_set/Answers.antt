@@ -33,15 +33,15 @@ below n M i b e l h = omega (arith, h, bound b (bits n M) e l)
 asked : (n M : ℕ) (raw qs : List Pulse) (r x : Result (List Pulse) Refusal) → take n raw ≡ qs → r ≡ track_set n M (take (n - 0) raw) → r ≡ x → track_set n M qs ≡ x
 asked n M raw qs r x e h k = let z : n - 0 ≡ n = omega arith in sym (h ∙ ap (λ m. track_set n M (take m raw)) z ∙ ap (track_set n M) e) ∙ k
 
-pub returns-in-err-row : goal.returns-in-err-row
-returns-in-err-row c =
+pub returns-in_err-row : goal.returns-in_err-row
+returns-in_err-row c =
     let n = c.args.number in
     let M = c.args.width in
     let i = c.args.index in
-    let p = err_from_is_err_and c.from-residual.result c.from-residual.ensures.1 in
+    let p = err_from_is_err_and c.from_residual.result c.from_residual.ensures.1 in
     let u = sym c.used.ensures ∙ c.if-not-used.false in
     let l = below n M i c.bits.result c.bits.ensures.is c.bits.ensures.few c.if-index-bits.false in
-    let s = asked n M c.undone-raw.result (pulses_of n M i) c.track-set.result (Err c.in-err-row.field-0.0) c.undone-raw.ensures c.track-set.ensures c.in-err-row.was in
+    let s = asked n M c.undone-raw.result (pulses_of n M i) c.track_set.result (Err c.in_err-row.field-0.0) c.undone-raw.ensures c.track_set.ensures c.in_err-row.was in
     rw (p.1, p.2) (read_refused c.args.how n M i u l _ s)
 
 pub index-requires : goal.index-requires
@@ -51,14 +51,14 @@ index-requires c =
     let i = c.args.index in
     let u : used n M ≡ true = sym c.used.ensures ∙ c.if-not-used.false in
     let l = below n M i c.bits.result c.bits.ensures.is c.bits.ensures.few c.if-index-bits.false in
-    let s = asked n M c.undone-raw.result (pulses_of n M i) c.track-set.result (Ok c.in-ok-row.row) c.undone-raw.ensures c.track-set.ensures c.in-ok-row.was in
+    let s = asked n M c.undone-raw.result (pulses_of n M i) c.track_set.result (Ok c.in_ok-row.row) c.undone-raw.ensures c.track_set.ensures c.in_ok-row.was in
     let k = in_use n M u in
     let z : n - 0 ≡ n = omega arith in
     let f = k.fits.some in
     let w = k.fits.wide in
     let m = k.narrow in
     let b = k.few in
-    let r = (read_rowed c.args.how n M i u l c.in-ok-row.row s).front_sorted in
+    let r = (read_rowed c.args.how n M i u l c.in_ok-row.row s).front_sorted in
     search rules
 
 pub returns-then-accepts : goal.returns-then-accepts
@@ -68,10 +68,10 @@ returns-then-accepts c =
     let i = c.args.index in
     let u : used n M ≡ true = sym c.used.ensures ∙ c.if-not-used.false in
     let l = below n M i c.bits.result c.bits.ensures.is c.bits.ensures.few c.if-index-bits.false in
-    let s = asked n M c.undone-raw.result (pulses_of n M i) c.track-set.result (Ok c.in-ok-row.row) c.undone-raw.ensures c.track-set.ensures c.in-ok-row.was in
+    let s = asked n M c.undone-raw.result (pulses_of n M i) c.track_set.result (Ok c.in_ok-row.row) c.undone-raw.ensures c.track_set.ensures c.in_ok-row.was in
     let z : n - 0 ≡ n = omega arith in
     let a = ap (λ v. accepts c.args.how v i) (sym (rw z at c.index.ensures.value)) ∙ sym c.accepts.ensures ∙ c.if-accepts.true in
-    (read_accepts c.args.how n M i u l c.in-ok-row.row s a, (in_use n M u).few)
+    (read_accepts c.args.how n M i u l c.in_ok-row.row s a, (in_use n M u).few)
 
 pub returns-else-accepts : goal.returns-else-accepts
 returns-else-accepts c =
@@ -80,7 +80,7 @@ returns-else-accepts c =
     let i = c.args.index in
     let u : used n M ≡ true = sym c.used.ensures ∙ c.if-not-used.false in
     let l = below n M i c.bits.result c.bits.ensures.is c.bits.ensures.few c.if-index-bits.false in
-    let s = asked n M c.undone-raw.result (pulses_of n M i) c.track-set.result (Ok c.in-ok-row.row) c.undone-raw.ensures c.track-set.ensures c.in-ok-row.was in
+    let s = asked n M c.undone-raw.result (pulses_of n M i) c.track_set.result (Ok c.in_ok-row.row) c.undone-raw.ensures c.track_set.ensures c.in_ok-row.was in
     let z : n - 0 ≡ n = omega arith in
     let a = ap (λ v. accepts c.args.how v i) (sym (rw z at c.index.ensures.value)) ∙ sym c.accepts.ensures ∙ c.if-accepts.false in
-    read_other c.args.how n M i u l c.in-ok-row.row s a ∙ ap Err (sym c.because-else-accepts.ensures)
+    read_other c.args.how n M i u l c.in_ok-row.row s a ∙ ap Err (sym c.because-else-accepts.ensures)

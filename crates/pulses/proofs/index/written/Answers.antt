@@ -8,11 +8,11 @@ pub returns-then-not-used : goal.returns-then-not-used
 returns-then-not-used c =
     ap Err c.because.ensures ∙ sym (write_unused c.args.width c.args.pulses.now (sym c.used.ensures ∙ c.if-not-used.true))
 
-pub returns-in-err-row : goal.returns-in-err-row
-returns-in-err-row c =
-    let p = err_from_is_err_and c.from-residual.result c.from-residual.ensures.1 in
+pub returns-in_err-row : goal.returns-in_err-row
+returns-in_err-row c =
+    let p = err_from_is_err_and c.from_residual.result c.from_residual.ensures.1 in
     let u = sym c.used.ensures ∙ c.if-not-used.false in
-    rw (p.1, p.2) (sym (write_refused c.args.width c.args.pulses.now _ u (sym c.track-set.ensures ∙ c.in-err-row.was)))
+    rw (p.1, p.2) (sym (write_refused c.args.width c.args.pulses.now _ u (sym c.track_set.ensures ∙ c.in_err-row.was)))
 
 pub index-requires : goal.index-requires
 index-requires c =
@@ -20,7 +20,7 @@ index-requires c =
     let ps = c.args.pulses.now in
     let u : used (length ps) M ≡ true = sym c.used.ensures ∙ c.if-not-used.false in
     let k = in_use (length ps) M u in
-    let r = rowed (length ps) M ps c.in-ok-row.row (omega arith) k.few (sym c.track-set.ensures ∙ c.in-ok-row.was) in
+    let r = rowed (length ps) M ps c.in_ok-row.row (omega arith) k.few (sym c.track_set.ensures ∙ c.in_ok-row.was) in
     let z : length ps - 0 ≡ length ps = omega arith in
     let s = r.front_sorted in
     let f = k.fits.some in
@@ -35,5 +35,5 @@ returns c =
     let ps = c.args.pulses.now in
     let u = sym c.used.ensures ∙ c.if-not-used.false in
     let z : length ps - 0 ≡ length ps = omega arith in
-    let e = write_answers M ps c.in-ok-row.row u (sym c.track-set.ensures ∙ c.in-ok-row.was) in
+    let e = write_answers M ps c.in_ok-row.row u (sym c.track_set.ensures ∙ c.in_ok-row.was) in
     ap Ok (rw z at c.index.ensures.value) ∙ sym e

@@ -32,8 +32,8 @@ six-half-full-requires t c =
     let l : c.high-j.result < 2 = omega (arith, h, c.high-j.ensures) in
     (omega arith, (omega arith, (l, omega arith)))
 
-pub six-overflow-sub-j : goal.six-overflow-sub-j
-six-overflow-sub-j t c =
+pub six-overflow_sub-j : goal.six-overflow_sub-j
+six-overflow_sub-j t c =
     let h = top_bit c.low-body.result (6 * c.args.width - 4) (6 * c.args.width - 5) (omega arith) c.low-body.ensures.small in
     omega (arith, h, c.high-j.ensures)
 
@@ -55,10 +55,10 @@ four-returns-in-2 t c =
     let g = groups 2 2 c.args.out.now c.read-in-2.new.out c.read-in-2-2.new.out c.args.from c.half-upper.result (c.args.width - 1) (c.args.width - 1) c.high-in-2.result c.low-in-2.result (omega arith) c.read-in-2.ensures c.read-in-2.auto.out c.read-in-2-2.ensures in
     cc
 
-pub four-returns-in-default : goal.four-returns-in-default
-four-returns-in-default t c =
+pub four-returns-in_default : goal.four-returns-in_default
+four-returns-in_default t c =
     let e = four_step_3 c.args.width c.args.from c.args.index c.high.result c.low-body.result (omega arith) c.high.ensures c.low-body.ensures.is (omega arith) in
-    let g = groups 3 1 c.args.out.now c.read-in-default.new.out c.read-in-default-2.new.out c.args.from c.half-upper.result (c.args.width - 1) (c.args.width - 1) c.high-in-default.result c.low-in-default.result (omega arith) c.read-in-default.ensures c.read-in-default.auto.out c.read-in-default-2.ensures in
+    let g = groups 3 1 c.args.out.now c.read-in_default.new.out c.read-in_default-2.new.out c.args.from c.half-upper.result (c.args.width - 1) (c.args.width - 1) c.high-in_default.result c.low-in_default.result (omega arith) c.read-in_default.ensures c.read-in_default.auto.out c.read-in_default-2.ensures in
     cc
 
 pub six-returns-in-0 : goal.six-returns-in-0
@@ -70,17 +70,17 @@ six-returns-in-0 t c =
 pub six-returns-in-1 : goal.six-returns-in-1
 six-returns-in-1 t c =
     let e = six_step_1 c.args.width c.args.from c.args.index c.high.result c.low-body.result c.high-j.result c.low-rest.result (record { wide = omega arith; number = c.high.ensures; body = c.low-body.ensures.is; fuller = c.high-j.ensures; rest = c.low-rest.ensures.is }) c.in-1.is in
-    let g = groups 5 1 c.args.out.now c.read-in-1.new.out c.read-in-1-2.new.out c.half-full.result c.half_other.result (c.args.width - 1) (c.args.width - 1) c.high-in-1.result c.low-in-1.result (omega arith) c.read-in-1.ensures c.read-in-1.auto.out c.read-in-1-2.ensures in
+    let g = groups 5 1 c.args.out.now c.read-in-1.new.out c.read-in-1-2.new.out c.half-full.result c.half-other.result (c.args.width - 1) (c.args.width - 1) c.high-in-1.result c.low-in-1.result (omega arith) c.read-in-1.ensures c.read-in-1.auto.out c.read-in-1-2.ensures in
     cc
 
 pub six-returns-in-2 : goal.six-returns-in-2
 six-returns-in-2 t c =
     let e = six_step_2 c.args.width c.args.from c.args.index c.high.result c.low-body.result c.high-j.result c.low-rest.result (record { wide = omega arith; number = c.high.ensures; body = c.low-body.ensures.is; fuller = c.high-j.ensures; rest = c.low-rest.ensures.is }) c.in-2.is in
-    let g = groups 4 2 c.args.out.now c.read-in-2.new.out c.read-in-2-2.new.out c.half-full.result c.half_other.result (c.args.width - 1) (c.args.width - 1) c.high-in-2.result c.low-in-2.result (omega arith) c.read-in-2.ensures c.read-in-2.auto.out c.read-in-2-2.ensures in
+    let g = groups 4 2 c.args.out.now c.read-in-2.new.out c.read-in-2-2.new.out c.half-full.result c.half-other.result (c.args.width - 1) (c.args.width - 1) c.high-in-2.result c.low-in-2.result (omega arith) c.read-in-2.ensures c.read-in-2.auto.out c.read-in-2-2.ensures in
     cc
 
-pub six-returns-in-default : goal.six-returns-in-default
-six-returns-in-default t c =
+pub six-returns-in_default : goal.six-returns-in_default
+six-returns-in_default t c =
     let e = six_step_3 c.args.width c.args.from c.args.index c.high.result c.low-body.result (omega arith) c.high.ensures c.low-body.ensures.is (omega arith) in
-    let g = groups 3 3 c.args.out.now c.read-in-default.new.out c.read-in-default-2.new.out c.args.from c.half.result (c.args.width - 1) (c.args.width - 1) c.high-in-default.result c.low-in-default.result (omega arith) c.read-in-default.ensures c.read-in-default.auto.out c.read-in-default-2.ensures in
+    let g = groups 3 3 c.args.out.now c.read-in_default.new.out c.read-in_default-2.new.out c.args.from c.half.result (c.args.width - 1) (c.args.width - 1) c.high-in_default.result c.low-in_default.result (omega arith) c.read-in_default.ensures c.read-in_default.auto.out c.read-in_default-2.ensures in
     cc

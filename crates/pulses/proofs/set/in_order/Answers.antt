@@ -11,7 +11,7 @@ loop-p-preserved c =
       omega arith,
       c.loop-p.invariant.1 ∙ line_up_step ps c.loop-p.row i (at ps i) c.loop-p-test.true refl
           ∙ ap (λ n. line_up (drop (i + 1) ps) (i + 1) (put n (at ps i) c.loop-p.row)) (sym c.loop-p.invariant.0)
-          ∙ ap (λ r. line_up (drop (i + 1) ps) (i + 1) r) (sym c.put-in.ensures),
+          ∙ ap (λ r. line_up (drop (i + 1) ps) (i + 1) r) (sym c.put_in.ensures),
     )
 
 pub returns : goal.returns

@@ -62,11 +62,11 @@ four-returns-in-3 t c =
     let h : c.index-in-3-2.result.count ≡ c.args.width = omega arith in
     record { value = cc; count = omega arith }
 
-pub four-returns-in-default : goal.four-returns-in-default
-four-returns-in-default t c =
+pub four-returns-in_default : goal.four-returns-in_default
+four-returns-in_default t c =
     let e = four_written_4 c.args.width c.args.pulses.now c.cut.result.low.now c.cut.result.high.now (omega arith) c.cut.ensures.halved (omega arith) in
-    let g : c.above-in-default.result.count ≡ 4 * c.args.width - 2 = omega arith in
-    let h : c.close-in-default.result.count ≡ 4 * c.args.width - 3 = omega arith in
+    let g : c.above-in_default.result.count ≡ 4 * c.args.width - 2 = omega arith in
+    let h : c.close-in_default.result.count ≡ 4 * c.args.width - 3 = omega arith in
     record { value = cc; count = omega arith }
 
 pub six-returns-in-0 : goal.six-returns-in-0
@@ -107,11 +107,11 @@ six-returns-in-5 t c =
     let g : c.index-in-5-2.result.count ≡ c.args.width = omega arith in
     record { value = cc; count = omega arith }
 
-pub six-returns-in-default : goal.six-returns-in-default
-six-returns-in-default t c =
+pub six-returns-in_default : goal.six-returns-in_default
+six-returns-in_default t c =
     let e = six_written_6 c.args.width c.args.pulses.now c.cut.result.low.now c.cut.result.high.now (omega arith) c.cut.ensures.halved (omega arith) (omega arith) in
     let s = last_one c.cut.result.low.now (omega arith) in
-    let g : c.index-in-default-2.result.count ≡ c.args.width = omega arith in
+    let g : c.index-in_default-2.result.count ≡ c.args.width = omega arith in
     record { value = cc; count = omega arith }
 
 pub three-index-third-requires : goal.three-index-third-requires
@@ -134,14 +134,14 @@ six-index-requires-in-0 t c =
     (subst Sorted (drop_down (c.args.width - 1) 5 c.cut.result.high.now) (sorted_drop 5 _ c.cut.ensures.halved.high_sorted)) in
     search rules
 
-pub six-index-requires-in-default : goal.six-index-requires-in-default
-six-index-requires-in-default t c =
+pub six-index-requires-in_default : goal.six-index-requires-in_default
+six-index-requires-in_default t c =
     let s : Sorted (down (c.args.width - 1) (take 5 c.cut.result.low.now)) =
     subst Sorted (take_down (c.args.width - 1) 5 c.cut.result.low.now) (sorted_take 5 _ c.cut.ensures.halved.low_sorted) in
     search rules
 
-pub six-index-requires-in-default-2 : goal.six-index-requires-in-default-2
-six-index-requires-in-default-2 t c =
+pub six-index-requires-in_default-2 : goal.six-index-requires-in_default-2
+six-index-requires-in_default-2 t c =
     let s : Sorted (down (c.args.width - 1) (take 1 (drop 5 c.cut.result.low.now))) =
     subst (λ z. Sorted (down (c.args.width - 1) z)) (sym (last_one c.cut.result.low.now (omega arith)))
     (subst Sorted (drop_down (c.args.width - 1) 5 c.cut.result.low.now) (sorted_drop 5 _ c.cut.ensures.halved.low_sorted)) in

@@ -6,11 +6,11 @@ use Rattle.sheets.proofs.sheet.sheet.Goals.{in-Ok+in-ok-add-frames, in-Err+in-ok
 pub returns : goal.returns
 returns g c =
     let cells = g.R.ReadCarrier.cells c.args.carrier.now in
-    elim c.match-read-frames.branch [
+    elim c.match-read_frames.branch [
       | in-Ok+in-ok-add-frames w ↦
-          printed_delays cells (vec_items w.in-Ok.frames) w.deref.result.now (string_bytes c.new-text.result) (string_bytes c.match-read-frames.text) c.read-frames.ensures.hands_out_messages w.in-Ok.ensures.handed
-          w.deref.ensures.value c.new-text.ensures.bytes (ap string_bytes w.text-is ∙ w.in-ok-add-frames.ensures)
+          printed_delays cells (vec_items w.in-Ok.frames) w.deref.result.now (string_bytes c.new-text.result) (string_bytes c.match-read_frames.text) c.read_frames.ensures.hands_out_messages w.in-Ok.ensures.handed
+          w.deref.ensures.value c.new-text.ensures.bytes (ap string_bytes w.text-is ∙ w.in_ok-add_frames.ensures)
       | in-Err+in-ok-add-refusal w ↦
-          printed_refusal cells w.in-Err.error (string_bytes c.new-text.result) (string_bytes c.match-read-frames.text) w.in-Err.ensures.answer c.new-text.ensures.bytes
-          (let h = w.in-ok-add-refusal.ensures in (h.0, h.1, ap string_bytes w.text-is ∙ h.2))
+          printed_refusal cells w.in-Err.error (string_bytes c.new-text.result) (string_bytes c.match-read_frames.text) w.in-Err.ensures.answer c.new-text.ensures.bytes
+          (let h = w.in_ok-add_refusal.ensures in (h.0, h.1, ap string_bytes w.text-is ∙ h.2))
     ]

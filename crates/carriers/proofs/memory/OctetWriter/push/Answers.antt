@@ -11,6 +11,6 @@ returns c =
     record {
       fixed = simp length-set;
       home = refl;
-      put = (simp table_length (omega arith), rw c.with-bit.ensures (octet_put memory used b (omega arith)));
-      memory = rw (c.with-bit.ensures, table_length) (length-set memory (used / 8) _, octet_here memory used b (omega arith), octet_others memory used b (omega arith));
+      put = (simp table_length (omega arith), rw c.with_bit.ensures (octet_put memory used b (omega arith)));
+      memory = rw (c.with_bit.ensures, table_length) (length-set memory (used / 8) _, octet_here memory used b (omega arith), octet_others memory used b (omega arith));
     }

@@ -6,4 +6,4 @@ pub returns-then-at-self : goal.returns-then-at-self
 returns-then-at-self c = ap Err c.because.ensures ∙ sym (table_past _ _ c.args.at (omega arith))
 
 pub returns : goal.returns
-returns c = ap Ok c.bit-of.ensures ∙ sym (table_in _ _ c.args.at (omega arith))
+returns c = ap Ok c.bit_of.ensures ∙ sym (table_in _ _ c.args.at (omega arith))

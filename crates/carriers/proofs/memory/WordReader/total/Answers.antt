@@ -3,4 +3,4 @@ use Rattle.carriers.proofs.Tables.{table_length}
 use Rattle.carriers.proofs.memory.WordReader.total.Goals as goal
 
 pub returns : goal.returns
-returns c = c.room-in.ensures ∙ sym (table_length _ _)
+returns c = c.room_in.ensures ∙ sym (table_length _ _)

@@ -10,6 +10,6 @@ returns c =
     record {
       fixed = simp length-set;
       home = refl;
-      put = (simp table_length (omega arith), rw c.word-for.ensures (word_put memory used c.args.bit (omega arith)));
-      memory = rw (c.word-for.ensures, table_length);
+      put = (simp table_length (omega arith), rw c.word_for.ensures (word_put memory used c.args.bit (omega arith)));
+      memory = rw (c.word_for.ensures, table_length);
     }

@@ -6,4 +6,4 @@ pub returns-then-at-self : goal.returns-then-at-self
 returns-then-at-self c = ap Err c.because.ensures ∙ sym (table_past _ _ c.args.at (omega arith))
 
 pub returns : goal.returns
-returns c = c.bit-of.ensures ∙ sym (table_in _ _ c.args.at (omega arith))
+returns c = c.bit_of.ensures ∙ sym (table_in _ _ c.args.at (omega arith))

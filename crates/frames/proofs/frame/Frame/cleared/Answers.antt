@@ -3,8 +3,8 @@ use Rattle.modes.specs.Fields.{cell_of}
 use Rattle.frames.proofs.Blanks.{replicate_at, blank_fit, blank_on, blank_rising, blank_padded, blank_long, blank_track}
 use Rattle.frames.proofs.frame.Frame.cleared.Goals as goal
 
-pub invariant-of-result : goal.invariant-of-result
-invariant-of-result c =
+pub invariant_of-result : goal.invariant_of-result
+invariant_of-result c =
     let m = c.args.mode in
     (blank_fit m, (blank_on m, (blank_rising m, (blank_padded m, (blank_long, (refl, (refl, tt)))))))
 

@@ -5,10 +5,10 @@ use Rattle.frames.proofs.frame.Frame.copy_track.Goals as goal
 pub returns-in-Ok : goal.returns-in-Ok
 returns-in-Ok c =
     let h = c.in-Ok.ensures in
-    track_copied c.args.self.now c.args.to.now c.set-track.new.self c.args.subframe c.args.track _ c.set-track.result
-    c.requires.mode (omega (arith, h)) (handed_front c.args.self.now c.args.subframe c.args.track c.in-Ok.n _ c.track.new.out h) c.set-track.ensures
+    track_copied c.args.self.now c.args.to.now c.set_track.new.self c.args.subframe c.args.track _ c.set_track.result
+    c.requires.mode (omega (arith, h)) (handed_front c.args.self.now c.args.subframe c.args.track c.in-Ok.n _ c.track.new.out h) c.set_track.ensures
 
-pub returns-in-default : goal.returns-in-default
-returns-in-default c =
+pub returns-in_default : goal.returns-in_default
+returns-in_default c =
     track_left c.args.self.now c.args.to.now c.args.subframe c.args.track c.requires.mode
-    (not_handed c.args.self.now c.args.subframe c.args.track _ c.track.new.out _ refl c.in-default.ensures)
+    (not_handed c.args.self.now c.args.subframe c.args.track _ c.track.new.out _ refl c.in_default.ensures)

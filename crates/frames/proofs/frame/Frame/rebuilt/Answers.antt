@@ -8,8 +8,8 @@ use Rattle.frames.proofs.frame.Frame.rebuilt.Goals as goal
 pub loop-cell-preserved : goal.loop-cell-preserved
 loop-cell-preserved c =
     let f = c.args.self.now in
-    let e : FieldCopied f c.loop-cell.made c.copy-field.new.to (field_at c.loop-cell.cell) = rw (← c.at.ensures) c.copy-field.ensures in
-    (e.mode ∙ c.loop-cell.invariant.0, fields_more f c.loop-cell.made c.copy-field.new.to c.loop-cell.cell (omega arith) e c.loop-cell.invariant.1)
+    let e : FieldCopied f c.loop-cell.made c.copy_field.new.to (field_at c.loop-cell.cell) = rw (← c.at.ensures) c.copy_field.ensures in
+    (e.mode ∙ c.loop-cell.invariant.0, fields_more f c.loop-cell.made c.copy_field.new.to c.loop-cell.cell (omega arith) e c.loop-cell.invariant.1)
 
 pub loop-at-init : goal.loop-at-init
 loop-at-init c =
@@ -19,8 +19,8 @@ loop-at-init c =
 pub loop-at-preserved : goal.loop-at-preserved
 loop-at-preserved c =
     let f = c.args.self.now in
-    let e = c.copy-track.ensures in
-    (e.mode ∙ c.loop-at.invariant.0, (λ x. e.fields x ∙ c.loop-at.invariant.1 x), tracks_more f c.loop-at.made c.copy-track.new.to c.loop-at.at e c.loop-at.invariant.2)
+    let e = c.copy_track.ensures in
+    (e.mode ∙ c.loop-at.invariant.0, (λ x. e.fields x ∙ c.loop-at.invariant.1 x), tracks_more f c.loop-at.made c.copy_track.new.to c.loop-at.at e c.loop-at.invariant.2)
 
 pub returns : goal.returns
 returns c =

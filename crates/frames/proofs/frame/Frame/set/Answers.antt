@@ -3,12 +3,12 @@ use Rattle.modes.specs.Fields.{cell_of, width}
 use Rattle.frames.proofs.Cells.{cell_apart, width_has, fit_set, below_from_shr}
 use Rattle.frames.proofs.frame.Frame.set.Goals as goal
 
-pub invariant-of-self : goal.invariant-of-self
-invariant-of-self c =
+pub invariant_of-self : goal.invariant_of-self
+invariant_of-self c =
     let f = c.args.self.now in
     let x = c.args.field in
-    let e : c.field-bits-bits.result ≡ width f.mode x = search rules in
-    let h = below_from_shr c.args.value c.field-bits-bits.result c.if-value-bits-ne0.false in
+    let e : c.field_bits-bits.result ≡ width f.mode x = search rules in
+    let h = below_from_shr c.args.value c.field_bits-bits.result c.if-value-bits-ne0.false in
     let fits : c.args.value < 2 ^ width f.mode x = rw e at h in
     let fit = fit_set f.mode f.values x c.args.value (omega (arith, f.cells)) (omega arith) fits f.fit in
     (rw (← c.cell.ensures) at fit, (f.on, (f.rising, (f.padded, (f.long, (length-set f.values _ _ ∙ f.cells, (f.rows, tt)))))))
@@ -17,8 +17,8 @@ pub returns : goal.returns
 returns c =
     let f = c.args.self.now in
     let x = c.args.field in
-    let e : c.field-bits-bits.result ≡ width f.mode x = search rules in
-    let h = below_from_shr c.args.value c.field-bits-bits.result c.if-value-bits-ne0.false in
+    let e : c.field_bits-bits.result ≡ width f.mode x = search rules in
+    let h = below_from_shr c.args.value c.field_bits-bits.result c.if-value-bits-ne0.false in
     let in' : cell_of x < 24 = width_has f.mode x (omega arith) in
     let ec = c.cell.ensures in
     record {

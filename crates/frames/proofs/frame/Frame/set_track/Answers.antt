@@ -10,17 +10,17 @@ use Rattle.frames.proofs.frame.Frame.set_track.Goals as goal
 pub returns-then-count-eq0 : goal.returns-then-count-eq0
 returns-then-count-eq0 c =
     let e = c.refused.ensures in
-    rw e (refl, refl, no_track (sym c.pulses-in-count.ensures.is ∙ c.if-count-eq0.true))
+    rw e (refl, refl, no_track (sym c.pulses_in-count.ensures.is ∙ c.if-count-eq0.true))
 
-pub invariant-of-self : goal.invariant-of-self
-invariant-of-self c =
+pub invariant_of-self : goal.invariant_of-self
+invariant_of-self c =
     let f = c.args.self.now in
     let s = c.args.subframe in
     let t = c.args.track in
     let m = f.mode in
-    let in' = c.pulses-in-count.ensures.has (omega arith) in
+    let in' = c.pulses_in-count.ensures.has (omega arith) in
     let few = pulses_in_few m s t in
-    let a = rw (c.pulses-in-count.ensures.is, c.track-width.ensures.is) at c.in-Ok.ensures in
+    let a = rw (c.pulses_in-count.ensures.is, c.track_width.ensures.is) at c.in-Ok.ensures in
     let g = taken_ok (pulses_in m s t) (row m).places c.args.pulses.now c.in-Ok.row few a in
     let h : LawfulRow (pulses_in m s t) (row m).places c.in-Ok.row = rw g.1 (taken_row (pulses_in m s t) (row m).places c.args.pulses.now few g.0) in
     let l : 4 * s + t < length f.tracks = omega (arith, in') in (
@@ -43,9 +43,9 @@ returns-in-Ok c =
     let s = c.args.subframe in
     let t = c.args.track in
     let m = f.mode in
-    let in' = c.pulses-in-count.ensures.has (omega arith) in
+    let in' = c.pulses_in-count.ensures.has (omega arith) in
     let few = pulses_in_few m s t in
-    let a = rw (c.pulses-in-count.ensures.is, c.track-width.ensures.is) at c.in-Ok.ensures in
+    let a = rw (c.pulses_in-count.ensures.is, c.track_width.ensures.is) at c.in-Ok.ensures in
     let ps = c.args.pulses.now in
     let g = taken_ok (pulses_in m s t) (row m).places ps c.in-Ok.row few a in
     let l : 4 * s + t < length f.tracks = omega (arith, in') in
@@ -65,6 +65,6 @@ returns-in-Err c =
     let m = c.args.self.now.mode in
     let s = c.args.subframe in
     let t = c.args.track in
-    let a = rw (c.pulses-in-count.ensures.is, c.track-width.ensures.is) at c.in-Err.ensures in
+    let a = rw (c.pulses_in-count.ensures.is, c.track_width.ensures.is) at c.in-Err.ensures in
     let why = taken_err (pulses_in m s t) (row m).places c.args.pulses.now c.in-Err.e (pulses_in_few m s t) a in
     rw c.refused-in-Err.ensures (refl, refl, unlawful c.in-Err.e.cause (omega arith) why)

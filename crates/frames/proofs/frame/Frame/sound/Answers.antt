@@ -14,5 +14,5 @@ loop-j-preserved c =
     let fits : SFits w8 c.amplitude.result = search rules in
     let v : to_z w8 (of_z w8 c.amplitude.result) ≡ sample_of f s j =
     to_z-of_z w8 c.amplitude.result fits ∙ c.amplitude.ensures
-    ∙ sample_read f s j c.tracks-tracks.result c.pulses-in-count.result c.tracks-tracks.ensures.is c.pulses-in-count.ensures.is in
+    ∙ sample_read f s j c.tracks-tracks.result c.pulses_in-count.result c.tracks-tracks.ensures.is c.pulses_in-count.ensures.is in
     rw v (fill_by_more (λ k. sample_of f s k) c.loop-j.part j (pos 0) l c.loop-j.invariant)

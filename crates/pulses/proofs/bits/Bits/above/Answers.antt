@@ -13,11 +13,11 @@ module _ (a i b k : ℕ) (h : a < 2 ^ i) (l : b < 2 ^ k) (r : i + k < 32) where
   fits : (a * 2 ^ k) % 2 ^ 32 + b < 2 ^ 32
   fits = omega (arith, small, pow_below (i + k) 32 r)
 
-pub overflow-add-result : goal.overflow-add-result
-overflow-add-result c = search (rules, fits)
+pub overflow_add-result : goal.overflow_add-result
+overflow_add-result c = search (rules, fits)
 
-pub invariant-of-result : goal.invariant-of-result
-invariant-of-result c = search (rules, small)
+pub invariant_of-result : goal.invariant_of-result
+invariant_of-result c = search (rules, small)
 
 pub returns : goal.returns
 returns c = search (rules, whole)
