@@ -86,8 +86,7 @@ fn written(width: u32, octets: &[u8]) -> i32
 
 /// [`write_index`] for C: each pulse one octet, place + 32 × sign bit. Answers
 /// the house index, or minus the number of the refusal.
-#[unsafe(no_mangle)]
-pub extern "C" fn vilchuqa_write_index(width: u32, pulses: &[u8]) -> i32
+pub fn vilchuqa_write_index(width: u32, pulses: &[u8]) -> i32
     ensures answer { result ≡ answer_of (write_index width (map pulse_of pulses.now)) }
     ensures octet_tells_the_pulse { OctetTellsThePulse }
     ensures off_every_track { OffEveryTrack }
@@ -113,8 +112,7 @@ fn hand_out(pulses: &[Pulse], out: &mut [u8]) -> i32
 
 /// [`read_index`] for C, into octets. Answers the number of pulses, or minus
 /// the number of the refusal, which leaves `out` as it was.
-#[unsafe(no_mangle)]
-pub extern "C" fn vilchuqa_read_index(
+pub fn vilchuqa_read_index(
     pulses: u32,
     width: u32,
     index: u32,
