@@ -12,4 +12,3 @@ pub mod Ordered
 pub mod Houses
 pub mod Written
 pub mod Agreeing
-pub mod Matching

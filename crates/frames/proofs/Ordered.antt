@@ -1,6 +1,6 @@
 -- Each part has its own place in the order, and so its own slot in the plan.
 use Rattle.std.proofs.Common.{◌≡◌, ℕ, zero, suc, ◌+◌, ◌-◌, ◌*◌, ◌<◌, ◌≤◌, cond, eqb, ltb, ◌⊎◌, List, [], ◌∷◌, map, length, get_or, filter, sym, refl, ap, ◌∙◌, inl, inr, ⊎_elim, arith}
-use Rattle.std.specs.List.{AllByRecursion as All, range_with_len}
+use Rattle.std.specs.List.{AllByRecursion, range_with_len}
 use Rattle.std.proofs.lemmas.List.{get_or-map}
 use Rattle.std.proofs.lemmas.List.FromFn.{get_or-range_with_len}
 use Rattle.std.proofs.ByRecursion.{All-from_get_or}
@@ -106,7 +106,7 @@ Own p q = place_of q ≡ place_of p → q ≡ p
 at_place : (k : ℕ) → k < 56 → place_of (get_or order k voice) ≡ k
 at_place k h = sym (get_or-map place_of order k voice 0 h) ∙ ap (λ xs. get_or xs k 0) places ∙ get_or-range_with_len 0 56 k 0 h ∙ omega arith
 
-own : (p : Part) → All (Own p) order
+own : (p : Part) → AllByRecursion (Own p) order
 own p =
     All-from_get_or (Own p) order voice (λ k h e.
     let k-is : k ≡ place_of p = sym (at_place k h) ∙ e in
@@ -122,7 +122,7 @@ slots_of m ps = filter (λ s. ltb 0 s.width) (map (slot m) ps)
 abbrev held : (Part → ℕ) → List Slot → Part → ℕ
 held g ss p = held_for ss (map (λ s. g s.part) ss) p
 
-absent : (m : Mode) (g : Part → ℕ) (p : Part) (ps : List Part) → part_width m p ≡ 0 → All (Own p) ps → held g (slots_of m ps) p ≡ 0
+absent : (m : Mode) (g : Part → ℕ) (p : Part) (ps : List Part) → part_width m p ≡ 0 → AllByRecursion (Own p) ps → held g (slots_of m ps) p ≡ 0
 absent m g p [] z us = refl
 absent m g p (q ∷ qs) z us =
     cond_both (ltb 0 (part_width m q)) (slot m q ∷ slots_of m qs) (slots_of m qs) (λ ss. held g ss p ≡ 0)
@@ -132,7 +132,7 @@ absent m g p (q ∷ qs) z us =
     (λ t. absent m g p qs z us.1))
     (λ e. absent m g p qs z us.1)
 
-present : (m : Mode) (g : Part → ℕ) (p : Part) (ps : List Part) (k : ℕ) → 0 < part_width m p → All (Own p) ps → k < length ps → get_or ps k voice ≡ p → held g (slots_of m ps) p ≡ g p
+present : (m : Mode) (g : Part → ℕ) (p : Part) (ps : List Part) (k : ℕ) → 0 < part_width m p → AllByRecursion (Own p) ps → k < length ps → get_or ps k voice ≡ p → held g (slots_of m ps) p ≡ g p
 present m g p [] k has us l e = absurd (omega arith)
 present m g p (q ∷ qs) zero has us l e =
     cond_both (ltb 0 (part_width m q)) (slot m q ∷ slots_of m qs) (slots_of m qs) (λ ss. held g ss p ≡ g p)
@@ -160,12 +160,12 @@ held_is m g p z =
     (cases_lt 0 (part_width m p))
 
 -- every slot of a plan is a part with its width
-all_slots : (m : Mode) (P : Slot → Type 0) → ((p : Part) → P (slot m p)) → (ps : List Part) → All P (slots_of m ps)
+all_slots : (m : Mode) (P : Slot → Type 0) → ((p : Part) → P (slot m p)) → (ps : List Part) → AllByRecursion P (slots_of m ps)
 all_slots m P h [] = tt
 all_slots m P h (q ∷ qs) =
-    cond_both (ltb 0 (part_width m q)) (slot m q ∷ slots_of m qs) (slots_of m qs) (λ ss. All P ss)
+    cond_both (ltb 0 (part_width m q)) (slot m q ∷ slots_of m qs) (slots_of m qs) (λ ss. AllByRecursion P ss)
     (λ b. (h q, all_slots m P h qs)) (λ b. all_slots m P h qs)
 
-pub plan_all : (m : Mode) (P : Slot → Type 0) → ((p : Part) → P (slot m p)) → All P (plan m)
+pub plan_all : (m : Mode) (P : Slot → Type 0) → ((p : Part) → P (slot m p)) → AllByRecursion P (plan m)
 unfolding plan
 plan_all m P h = all_slots m P h order

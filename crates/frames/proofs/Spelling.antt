@@ -1,7 +1,7 @@
 -- Numbers in bits and back, one slot after another.
 use Rattle.std.proofs.Common.{◌≡◌, ℕ, zero, suc, ◌+◌, ◌*◌, ◌/◌, ◌%◌, ◌^◌, ◌<◌, List, [], ◌∷◌, ◌++◌, map, length, take, sym, refl, ap, ◌∙◌, ap₂, pow-suc, div-one, arith, length-append}
 use native.Mathlib.Nat.{div-div-eq-div-mul, div-eq_of_lt}
-use Rattle.std.specs.List.{AllByRecursion as All}
+use Rattle.std.specs.List.{AllByRecursion}
 use Rattle.std.proofs.lemmas.List.{take_at, drop_at}
 use Rattle.modes.specs.declared.plan.Slot.{Slot}
 use Rattle.modes.specs.Plan.{total}
@@ -29,7 +29,7 @@ read_one w v rest h =
 abbrev values_by : (Slot → ℕ) → List Slot → List ℕ
 values_by g ss = map g ss
 
-pub read_spelt : (g : Slot → ℕ) (ss : List Slot) → All (λ s. g s < 2 ^ s.width) ss → read_slots ss (spell ss (map g ss)) ≡ map g ss
+pub read_spelt : (g : Slot → ℕ) (ss : List Slot) → AllByRecursion (λ s. g s < 2 ^ s.width) ss → read_slots ss (spell ss (map g ss)) ≡ map g ss
 read_spelt g [] h = refl
 read_spelt g (s ∷ ss) h =
     ap₂ (λ v vs. v ∷ vs) (read_one s.width (g s) (spell ss (map g ss)) h.0)

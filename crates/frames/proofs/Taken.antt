@@ -1,7 +1,7 @@
 -- What a track takes: the answers of a track set, and the rows that hold one.
 use Rattle.std.proofs.Common.{◌≡◌, ℕ, suc, ◌+◌, ◌-◌, ◌^◌, ◌<◌, ◌≤◌, true, false, leb, ◌⊎◌, List, [], ◌∷◌, length, take, replicate, Ok, Err, Result, sym, refl, ap, ◌∙◌, subst, inl, inr, ⊎_elim, arith, length-append, pow_pos}
 use lib.ListN.{length-replicate}
-use Rattle.std.specs.List.{AllByRecursion as All}
+use Rattle.std.specs.List.{AllByRecursion}
 use Rattle.std.proofs.lemmas.List.{ext_get_or, length-take, get_or-take, take_at, get_or_append_left, get_or-append_right}
 use Rattle.std.proofs.ByRecursion.{All-get_or, All-from_get_or}
 use Rattle.std.proofs.lemmas.Bool.{cases_eq, cases_lt, cases_Bool, cond_both, true≢false}
@@ -138,13 +138,13 @@ unfolding sort
 sort_length [] = refl
 sort_length (p ∷ ps) = insert_length p (sort ps) ∙ ap suc (sort_length ps)
 
-insert_all : (P : Pulse → Type 0) (p : Pulse) (ps : List Pulse) → P p → All P ps → All P (insert p ps)
+insert_all : (P : Pulse → Type 0) (p : Pulse) (ps : List Pulse) → P p → AllByRecursion P ps → AllByRecursion P (insert p ps)
 unfolding insert
 insert_all P p [] h a = (h, tt)
 insert_all P p (q ∷ qs) h a =
-    cond_both (leb p.place q.place) (p ∷ q ∷ qs) (q ∷ insert p qs) (λ z. All P z) (λ _. (h, a)) (λ _. (a.0, insert_all P p qs h a.1))
+    cond_both (leb p.place q.place) (p ∷ q ∷ qs) (q ∷ insert p qs) (λ z. AllByRecursion P z) (λ _. (h, a)) (λ _. (a.0, insert_all P p qs h a.1))
 
-sort_all : (P : Pulse → Type 0) (ps : List Pulse) → All P ps → All P (sort ps)
+sort_all : (P : Pulse → Type 0) (ps : List Pulse) → AllByRecursion P ps → AllByRecursion P (sort ps)
 unfolding sort
 sort_all P [] a = tt
 sort_all P (p ∷ ps) a = insert_all P p (sort ps) a.0 (sort_all P ps a.1)
@@ -162,7 +162,7 @@ pub taken_row : (n M : ℕ) (ps : List Pulse) → n ≤ 6 → Group M n ps → L
 taken_row n M ps l g = padded_row n M (sort ps) l (sorted_group n M ps g) (sorted_sort ps)
 
 -- and back: what a row's front is
-weaker : (p : Pulse) (ps : List Pulse) → All (λ q. p.place + apart p q ≤ q.place) ps → All (λ q. p.place ≤ q.place) ps
+weaker : (p : Pulse) (ps : List Pulse) → AllByRecursion (λ q. p.place + apart p q ≤ q.place) ps → AllByRecursion (λ q. p.place ≤ q.place) ps
 weaker p [] us = tt
 weaker p (q ∷ qs) us = (omega (arith, us.0), weaker p qs us.1)
 

@@ -15,7 +15,7 @@
 --   Reads bs f          the record f is what is read from the bits bs
 --   Agree f g           the records agree in every field that is no pulse field, and in excitation
 use Rattle.std.specs.Prelude.{◌≡◌, ℕ, zero, suc, ◌+◌, ◌*◌, ◌/◌, ◌%◌, ◌^◌, ◌<◌, cond, ◌↔◌, List, [], ◌∷◌, ◌++◌, map, length, take, drop, ◌==◌, nat_lt}
-use Rattle.std.specs.List.{AllByRecursion as All}
+use Rattle.std.specs.List.{AllByRecursion}
 use Rattle.pulses.specs.declared.pulse.Pulse.{Pulse}
 use Rattle.pulses.specs.Pulses.{sort}
 use Rattle.pulses.specs.House.{house}
@@ -109,7 +109,7 @@ ReadingUndoesWriting = (f g : Frame) → f.mode ≡ g.mode → Reads (frame_bits
 -- the values of a plan's slots, in their order, fit them, and tell the record
 abbrev pub ValuesTellRecords : Type 0
 ValuesTellRecords =
-    (f g : Frame) → All (λ s. part_value f s.part < 2 ^ s.width) (plan f.mode) × (f.mode ≡ g.mode → slot_values f ≡ slot_values g → f ≡ g)
+    (f g : Frame) → AllByRecursion (λ s. part_value f s.part < 2 ^ s.width) (plan f.mode) × (f.mode ≡ g.mode → slot_values f ≡ slot_values g → f ≡ g)
 
 pub record Agree (f g : Frame) : Type 0 where
   pub fields : (x : Field) → value f x ≡ value g x

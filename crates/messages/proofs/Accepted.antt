@@ -1,6 +1,6 @@
 -- What stands as a message is accepted.
 use Rattle.std.proofs.Common.{◌≡◌, ℕ, zero, suc, ◌+◌, ◌-◌, ◌^◌, ◌<◌, ◌≤◌, ◌⊎◌, List, [], ◌∷◌, ◌++◌, length, get_or, drop, set, Some, None, Ok, sym, refl, ap, ◌∙◌, subst, ap₂, ⊎_elim, add-zero, arith, length-append, length-drop, length-set, get_or-set_other, get_or-set_same, pow_pos}
-use Rattle.std.specs.List.{AllByRecursion as All}
+use Rattle.std.specs.List.{AllByRecursion}
 use Rattle.std.proofs.lemmas.List.{ext_get_or}
 use Rattle.std.proofs.lemmas.Bool.{cases_eq, ne_eqb}
 use Rattle.refusals.specs.declared.refusal.Spot.{Spot}
@@ -29,7 +29,7 @@ field_is cs rest p at w v h e = sym (ap (spotted p) (field_read cs rest w v at h
 abbrev Left : List Slot → List ℕ → List ℕ → Type 0
 Left ss vs us = (q : ℕ) → Away q ss → get_or vs q 0 ≡ get_or us q 0
 
-slots_accepted : (how : Reading) (cs rest : List Cell) (m : Mode) (n at : ℕ) (ss : List Slot) (vs us : List ℕ) (b : ℕ) → length vs ≡ 57 → length us ≡ 57 → Rises b ss → All (Good how m us) ss
+slots_accepted : (how : Reading) (cs rest : List Cell) (m : Mode) (n at : ℕ) (ss : List Slot) (vs us : List ℕ) (b : ℕ) → length vs ≡ 57 → length us ≡ 57 → Rises b ss → AllByRecursion (Good how m us) ss
     → Left ss vs us → drop at cs ≡ spelt us ss ++ rest → read_slots how cs m n at ss vs ≡ Ok us
 unfolding spelt
 slots_accepted how cs rest m n at [] vs us b lv lu r good left e =
@@ -54,7 +54,7 @@ slots_accepted how cs rest m n at (s ∷ ss) vs us b lv lu r good left e =
 -- a frame as it stands in a message that is accepted
 pub record Sent (how : Reading) (b : Content) : Type 0 where
   pub long : length b.values ≡ 57
-  pub good : All (Good how b.mode b.values) (plan b.mode)
+  pub good : AllByRecursion (Good how b.mode b.values) (plan b.mode)
   pub empty : Left (plan b.mode) blank b.values
 
 abbrev pub content_cells : Content → List Cell
@@ -103,7 +103,7 @@ next_over how cs left n at e =
 abbrev pub tail_at : ℕ → List Cell
 tail_at k = bits_of 4 15 ++ bits_of (filler (k + 4)) 0
 
-pub from_accepted : (how : Reading) (cs : List Cell) (left at : ℕ) (before more : List Content) → All (Sent how) more → length more ≤ left
+pub from_accepted : (how : Reading) (cs : List Cell) (left at : ℕ) (before more : List Content) → AllByRecursion (Sent how) more → length more ≤ left
     → drop at cs ≡ body_of more ++ tail_at (at + length (body_of more)) → read_from how cs left at before ≡ Ok (before ++ more)
 from_accepted how cs left at before [] sent l e =
     let e' : drop at cs ≡ tail_at at = e ∙ ap tail_at (add-zero at) in

@@ -1,7 +1,7 @@
 -- Why setting what was read is never refused, and what it leaves; all parts are the record.
 use Rattle.std.proofs.Common.{◌≡◌, ℕ, zero, suc, ◌+◌, ◌-◌, ◌^◌, ◌<◌, ◌≤◌, leb, ◌⊎◌, List, [], ◌∷◌, ◌++◌, length, get_or, take, drop, Some, None, Ok, Err, Option, Result, sym, refl, ap, ◌∙◌, subst, ⊎_elim, arith, MatchResult}
 use native.Mathlib.Nat.{sub-zero}
-use Rattle.std.specs.List.{AllByRecursion as All}
+use Rattle.std.specs.List.{AllByRecursion}
 use Rattle.std.proofs.lemmas.Bool.{cases_lt, cases_eq, cond-true, le-leb}
 use Rattle.std.proofs.lemmas.List.{take_at}
 use Rattle.refusals.specs.declared.refusal.Refusal.{Refusal}
@@ -110,7 +110,7 @@ module _ (how : Reading) (b : Content) (s t n M i w p q : ℕ) (fine : Fine how 
       track_copied f to to' s t (take (k - 0) rows) r em' has' (given (set_in b s t) out k (read_index how n M i) rows reads few_pulses long a g ∙ sym (st.tracks s t)) h
 
 -- the slots of a plan, by their places in it
-all_nth : (P : Slot → Type 0) (ss : List Slot) (k : ℕ) (s : Slot) → All P ss → Some s ≡ nth ss k → P s
+all_nth : (P : Slot → Type 0) (ss : List Slot) (k : ℕ) (s : Slot) → AllByRecursion P ss → Some s ≡ nth ss k → P s
 all_nth P [] k s us e = let z : ◌≡◌ {A = ℕ} 0 1 = cc in absurd (omega arith)
 all_nth P (t ∷ ss) zero s us e = let z : t ≡ s = cc in subst P z us.0
 all_nth P (t ∷ ss) (suc k) s us e = all_nth P ss k s us.1 e

@@ -1,6 +1,6 @@
 -- The frames that reading hands out: strictly those whose message the cells are, openly those whose cells they are by some indices.
 use Rattle.std.proofs.Common.{◌≡◌, ℕ, suc, ◌+◌, ◌≤◌, List, [], ◌∷◌, ◌++◌, map, length, IfOk, Ok, Err, vec_items, Result, Vec, sym, refl, ap, ◌∙◌, subst, ap₂, arith}
-use Rattle.std.specs.List.{AllByRecursion as All}
+use Rattle.std.specs.List.{AllByRecursion}
 use Rattle.std.specs.declared.alloc.Global.{Global}
 use Rattle.refusals.specs.declared.refusal.Refusal.{Refusal}
 use Rattle.carriers.specs.Cells.{Cell}
@@ -45,7 +45,7 @@ cells_read how cs bs e =
     (omega (arith, ap length p.is, p.few), p.cells ∙ ap (λ l. body_of l ++ tail_at (0 + length (body_of l))) (sym p.is) ∙ ap (λ k. body_of bs ++ tail_at k) z)
 
 -- strictly
-strict_body : (bs : List Content) (fs : List Frame) → Records bs fs → All (Fine Strict) bs → body fs ≡ body_of bs
+strict_body : (bs : List Content) (fs : List Frame) → Records bs fs → AllByRecursion (Fine Strict) bs → body fs ≡ body_of bs
 strict_body [] [] r us = refl
 strict_body [] (f ∷ fs) r us = absurd r
 strict_body (b ∷ bs) [] r us = absurd r
@@ -67,7 +67,7 @@ hands_out_messages cs fs = (
 )
 
 -- by indices
-bodies_of : (how : Reading) (bs : List Content) (fs : List Frame) → Records bs fs → All (Fine how) bs → Bodies how fs (body_of bs)
+bodies_of : (how : Reading) (bs : List Content) (fs : List Frame) → Records bs fs → AllByRecursion (Fine how) bs → Bodies how fs (body_of bs)
 bodies_of how [] [] r us = none
 bodies_of how [] (f ∷ fs) r us = absurd r
 bodies_of how (b ∷ bs) [] r us = absurd r
@@ -79,7 +79,7 @@ bodies_of how (b ∷ bs) (f ∷ fs) r us =
 
 record Contents (how : Reading) (fs : List Frame) (cs : List Cell) : Type 0 where
   pub bodies : List Content
-  pub sent : All (Sent how) bodies
+  pub sent : AllByRecursion (Sent how) bodies
   pub cells : cs ≡ body_of bodies
   pub records : Records bodies fs
 
@@ -109,7 +109,7 @@ hands_out_by_indices how cs fs = (
 )
 
 -- how many they are
-records_of : (how : Reading) (bs : List Content) → All (Fine how) bs → (fs : List Frame) × Records bs fs
+records_of : (how : Reading) (bs : List Content) → AllByRecursion (Fine how) bs → (fs : List Frame) × Records bs fs
 records_of how [] us = ([], tt)
 records_of how (b ∷ bs) us =
     let r = records_of how bs us.1 in

@@ -1,7 +1,7 @@
 -- A record's frame stands in a message with house indices, and is read again; and what is read strictly is such a frame.
 use Rattle.std.proofs.Common.{◌≡◌, ℕ, zero, suc, ◌+◌, ◌-◌, ◌/◌, ◌%◌, ◌^◌, ◌<◌, cond, eqb, ◌⊎◌, List, [], ◌∷◌, ◌++◌, map, get_or, Ok, sym, refl, ap, ◌∙◌, subst, ap₂, ⊎_elim, mul_comm, arith}
 use native.Mathlib.Nat.{div-add-mod}
-use Rattle.std.specs.List.{AllByRecursion as All, range_with_len}
+use Rattle.std.specs.List.{AllByRecursion, range_with_len}
 use Rattle.std.proofs.lemmas.List.FromFn.{get_or-range_with_len}
 use Rattle.carriers.specs.declared.bit.Bit.{Bit}
 use Rattle.carriers.specs.declared.bit.Bit.TheVariants.{Zero, One}
@@ -96,7 +96,7 @@ asked f (Low s t) has =
     ap₂ (λ h l. joined h (low_bits f.mode s t) l) (sent_held f (High s t)) (sent_held f (Low s t)) ∙ cut_whole (index f s t) (low_bits f.mode s t) in
     ap settled (ap (read_index Strict (count_of f s t) (track_width f)) i ∙ index_read f s t (low_has f.mode s t has))
 
-good : (f : Frame) → All (Good Strict f.mode (sent_of f).values) (plan f.mode)
+good : (f : Frame) → AllByRecursion (Good Strict f.mode (sent_of f).values) (plan f.mode)
 good f = plan_each f.mode (Good Strict f.mode (sent_of f).values) (λ p has. (rw (sent_held f p) (part_fits f p), asked f p has))
 
 places : map place_of order ≡ range_with_len 0 56
@@ -153,7 +153,7 @@ pub sent_body : (fs : List Frame) → body fs ≡ body_of (map sent_of fs)
 sent_body [] = refl
 sent_body (f ∷ fs) = ap₂ (λ (a b : List Cell). a ++ b) (sent_cells f) (sent_body fs)
 
-pub all_sent : (fs : List Frame) → All (Sent Strict) (map sent_of fs)
+pub all_sent : (fs : List Frame) → AllByRecursion (Sent Strict) (map sent_of fs)
 all_sent [] = tt
 all_sent (f ∷ fs) = (sent f, all_sent fs)
 

@@ -1,6 +1,6 @@
 -- What was read of a frame's slots: where they stand, that they fit, and that every track was accepted.
 use Rattle.std.proofs.Common.{◌≡◌, ℕ, suc, ◌+◌, ◌-◌, ◌^◌, ◌<◌, ◌⊎◌, List, [], ◌∷◌, ◌++◌, length, get_or, drop, set, Ok, Err, Result, sym, refl, ap, ◌∙◌, subst, ap₂, ⊎_elim, add-zero, add_assoc, arith, length-set, get_or-set_other, get_or-set_same, pow_pos}
-use Rattle.std.specs.List.{AllByRecursion as All}
+use Rattle.std.specs.List.{AllByRecursion}
 use Rattle.std.proofs.lemmas.Bool.{cases_lt, lt-ltb, le-ltb}
 use Rattle.refusals.specs.declared.refusal.Spot.{Spot}
 use Rattle.refusals.specs.declared.refusal.Refusal.{Refusal}
@@ -94,7 +94,7 @@ asked_same how m vs us (Low s t) w v l h =
 
 pub record SlotsWereRead (how : Reading) (cs : List Cell) (m : Mode) (at : ℕ) (ss : List Slot) (us : List ℕ) : Type 0 where
   pub cells : drop at cs ≡ spelt us ss ++ drop (at + total ss) cs
-  pub good : All (Good how m us) ss
+  pub good : AllByRecursion (Good how m us) ss
 
 pub append_assoc : {X : Type 0} (xs ys zs : List X) → (xs ++ ys) ++ zs ≡ xs ++ (ys ++ zs)
 append_assoc [] ys zs = refl

@@ -1,6 +1,6 @@
 -- What holds of the slots of a plan: each is a part with its width, and their places rise.
 use Rattle.std.proofs.Common.{◌≡◌, ℕ, zero, suc, ◌<◌, ◌≤◌, Bool, true, ◌&&◌, ltb, leb, ◌⊎◌, List, [], ◌∷◌, map, length, get_or, filter, sym, refl, ap, ◌∙◌, subst, ⊎_elim, arith}
-use Rattle.std.specs.List.{AllByRecursion as All}
+use Rattle.std.specs.List.{AllByRecursion}
 use Rattle.std.proofs.lemmas.Bool.{cond_both, ltb-true, leb-true, ltb-false, and_parts}
 use Rattle.modes.specs.declared.mode.Mode.{Mode}
 use Rattle.modes.specs.declared.field.Field.TheVariants.{Voice}
@@ -19,29 +19,29 @@ voice = Value Voice
 abbrev slots_of : Mode → List Part → List Slot
 slots_of m ps = filter (λ s. ltb 0 s.width) (map (slot m) ps)
 
-each : (m : Mode) (P : Slot → Type 0) → ((p : Part) → 0 < part_width m p → P (slot m p)) → (ps : List Part) → All P (slots_of m ps)
+each : (m : Mode) (P : Slot → Type 0) → ((p : Part) → 0 < part_width m p → P (slot m p)) → (ps : List Part) → AllByRecursion P (slots_of m ps)
 each m P h [] = tt
 each m P h (q ∷ qs) =
-    cond_both (ltb 0 (part_width m q)) (slot m q ∷ slots_of m qs) (slots_of m qs) (λ ss. All P ss)
+    cond_both (ltb 0 (part_width m q)) (slot m q ∷ slots_of m qs) (slots_of m qs) (λ ss. AllByRecursion P ss)
     (λ b. (h q (ltb-true 0 (part_width m q) b), each m P h qs)) (λ b. each m P h qs)
 
 -- what holds of each part that the mode has holds of each slot
-pub plan_each : (m : Mode) (P : Slot → Type 0) → ((p : Part) → 0 < part_width m p → P (slot m p)) → All P (plan m)
+pub plan_each : (m : Mode) (P : Slot → Type 0) → ((p : Part) → 0 < part_width m p → P (slot m p)) → AllByRecursion P (plan m)
 unfolding plan
 plan_each m P h = each m P h order
 
-one : (m : Mode) (P : Slot → Type 0) (p : Part) → 0 < part_width m p → (ps : List Part) (k : ℕ) → k < length ps → get_or ps k voice ≡ p → All P (slots_of m ps) → P (slot m p)
+one : (m : Mode) (P : Slot → Type 0) (p : Part) → 0 < part_width m p → (ps : List Part) (k : ℕ) → k < length ps → get_or ps k voice ≡ p → AllByRecursion P (slots_of m ps) → P (slot m p)
 one m P p has [] k l e us = absurd (omega arith)
 one m P p has (q ∷ qs) zero l e us =
-    cond_both (ltb 0 (part_width m q)) (slot m q ∷ slots_of m qs) (slots_of m qs) (λ ss. All P ss → P (slot m p))
+    cond_both (ltb 0 (part_width m q)) (slot m q ∷ slots_of m qs) (slots_of m qs) (λ ss. AllByRecursion P ss → P (slot m p))
     (λ b vs. subst (λ r. P (slot m r)) e vs.0)
     (λ b vs. absurd (omega (arith, ltb-false 0 (part_width m q) b, ap (part_width m) e, has))) us
 one m P p has (q ∷ qs) (suc k) l e us =
-    cond_both (ltb 0 (part_width m q)) (slot m q ∷ slots_of m qs) (slots_of m qs) (λ ss. All P ss → P (slot m p))
+    cond_both (ltb 0 (part_width m q)) (slot m q ∷ slots_of m qs) (slots_of m qs) (λ ss. AllByRecursion P ss → P (slot m p))
     (λ b vs. one m P p has qs k (omega arith) e vs.1) (λ b vs. one m P p has qs k (omega arith) e vs) us
 
 -- and back
-pub plan_part : (m : Mode) (P : Slot → Type 0) (p : Part) → 0 < part_width m p → All P (plan m) → P (slot m p)
+pub plan_part : (m : Mode) (P : Slot → Type 0) (p : Part) → 0 < part_width m p → AllByRecursion P (plan m) → P (slot m p)
 unfolding plan
 plan_part m P p has us =
     ⊎_elim
@@ -61,7 +61,7 @@ own_place m p q has e =
 
 -- no slot has the place of a part that the mode lacks
 abbrev pub Away : ℕ → List Slot → Type 0
-Away q ss = All (λ s. place_of s.part ≡ q → ⊥) ss
+Away q ss = AllByRecursion (λ s. place_of s.part ≡ q → ⊥) ss
 
 pub plan_away : (m : Mode) (p : Part) → part_width m p ≡ 0 → Away (place_of p) (plan m)
 plan_away m p z = plan_each m (λ s. place_of s.part ≡ place_of p → ⊥) (λ q has e. let w = ap (part_width m) (own_place m p q has e) in omega (arith, has, w, z))

@@ -1,6 +1,6 @@
 -- What was read of a message: its cells, and that every frame is fine.
 use Rattle.std.proofs.Common.{◌≡◌, ℕ, zero, suc, ◌+◌, ◌-◌, ◌<◌, cond, ◌&&◌, eqb, List, [], ◌∷◌, ◌++◌, length, drop, Some, None, Ok, Err, Option, Result, sym, refl, ap, ◌∙◌, subst, ap₂, arith, length-drop}
-use Rattle.std.specs.List.{AllByRecursion as All}
+use Rattle.std.specs.List.{AllByRecursion}
 use Rattle.std.proofs.lemmas.Bool.{cond_both, eqb-true, eqb-false, and_parts}
 use Rattle.refusals.specs.declared.cause.Cause.TheVariants.{NoSuchMode, TooManyFrames, BadFill}
 use Rattle.refusals.specs.declared.refusal.Refusal.{Refusal}
@@ -137,34 +137,34 @@ turned_fine how cs left at f t = t.fine
 pub next_fine : (how : Reading) (cs : List Cell) (left n at : ℕ) (f : Content) → Ok (Some f) ≡ next_frame how cs left n at → Fine how f
 next_fine how cs left n at f e = turned_fine how cs left at f (turned how cs left n at (Some f) (sym e))
 
-all_push : {X : Type 0} (P : X → Type 0) (xs : List X) (x : X) → All P xs → P x → All P (xs ++ x ∷ [])
+all_push : {X : Type 0} (P : X → Type 0) (xs : List X) (x : X) → AllByRecursion P xs → P x → AllByRecursion P (xs ++ x ∷ [])
 all_push P [] x us u = (u, tt)
 all_push P (y ∷ xs) x us u = (us.0, all_push P xs x us.1 u)
 
-pub from_fine : (how : Reading) (cs : List Cell) (left at : ℕ) (before bs : List Content) → All (Fine how) before → read_from how cs left at before ≡ Ok bs → All (Fine how) bs
+pub from_fine : (how : Reading) (cs : List Cell) (left at : ℕ) (before bs : List Content) → AllByRecursion (Fine how) before → read_from how cs left at before ≡ Ok bs → AllByRecursion (Fine how) bs
 from_fine how cs zero at before bs us e =
     let p = then_ok (next_frame how cs 0 (length before) at) (onward how cs 0 at before) bs (sym (by_turn how cs 0 at before) ∙ e) in
-    subst (All (Fine how)) (ok_is before bs p.2) us
+    subst (AllByRecursion (Fine how)) (ok_is before bs p.2) us
 from_fine how cs (suc left) at before bs us e =
     let p = then_ok (next_frame how cs (suc left) (length before) at) (onward how cs (suc left) at before) bs (sym (by_turn how cs (suc left) at before) ∙ e) in
     next p.0 (turned how cs (suc left) (length before) at p.0 p.1) (λ f us' h. from_fine how cs left (at + 4 + total (plan f.mode)) (before ++ f ∷ []) bs us' h) p.2
   where
     next : (o : Option Content) → Turned how cs (suc left) at o
-        → ((f : Content) → All (Fine how) (before ++ f ∷ []) → read_from how cs left (at + 4 + total (plan f.mode)) (before ++ f ∷ []) ≡ Ok bs → All (Fine how) bs)
-        → onward how cs (suc left) at before o ≡ Ok bs → All (Fine how) bs
-    next None t go h = subst (All (Fine how)) (ok_is before bs h) us
+        → ((f : Content) → AllByRecursion (Fine how) (before ++ f ∷ []) → read_from how cs left (at + 4 + total (plan f.mode)) (before ++ f ∷ []) ≡ Ok bs → AllByRecursion (Fine how) bs)
+        → onward how cs (suc left) at before o ≡ Ok bs → AllByRecursion (Fine how) bs
+    next None t go h = subst (AllByRecursion (Fine how)) (ok_is before bs h) us
     next (Some f) t go h = go f (all_push (Fine how) before f us (turned_fine how cs (suc left) at f t)) h
 
-pub frames_fine : (how : Reading) (cs : List Cell) (bs : List Content) → read_frames how cs ≡ Ok bs → All (Fine how) bs
+pub frames_fine : (how : Reading) (cs : List Cell) (bs : List Content) → read_frames how cs ≡ Ok bs → AllByRecursion (Fine how) bs
 frames_fine how cs bs e = from_fine how cs 512 0 [] bs tt e
 
-nth_all : (P : Content → Type 0) (bs : List Content) (n : ℕ) (b : Content) → All P bs → nth bs n ≡ Some b → P b
+nth_all : (P : Content → Type 0) (bs : List Content) (n : ℕ) (b : Content) → AllByRecursion P bs → nth bs n ≡ Some b → P b
 nth_all P [] n b us e = let z : ◌≡◌ {A = ℕ} 0 1 = cc in absurd (omega arith)
 nth_all P (c ∷ bs) zero b us e = let z : c ≡ b = cc in subst P z us.0
 nth_all P (c ∷ bs) (suc n) b us e = nth_all P bs n b us.1 e
 
 -- the frame that was kept is fine
-kept_fine : (how : Reading) (r : Result (List Content) Refusal) (n k : ℕ) (o : Option Content) (b : Content) → ((bs : List Content) → r ≡ Ok bs → All (Fine how) bs) → Ok (k, o) ≡ seen n r → o ≡ Some b → Fine how b
+kept_fine : (how : Reading) (r : Result (List Content) Refusal) (n k : ℕ) (o : Option Content) (b : Content) → ((bs : List Content) → r ≡ Ok bs → AllByRecursion (Fine how) bs) → Ok (k, o) ≡ seen n r → o ≡ Some b → Fine how b
 kept_fine how (Ok bs) n k o b h e i =
     let q : o ≡ nth bs n = ap (λ (x : ℕ × Option Content). x.1) (ok_is (k, o) (length bs, nth bs n) e) in
     nth_all (Fine how) bs n b (h bs refl) (sym q ∙ i)

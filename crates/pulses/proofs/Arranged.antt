@@ -1,6 +1,6 @@
 -- What the order keeps and makes: the same pulses, sorted, and nothing behind them. And what neighbours tell of the signs.
 use Rattle.std.proofs.Common.{◌≡◌, ℕ, zero, suc, ◌+◌, ◌<◌, ◌≤◌, List, [], ◌∷◌, length, take, sym, refl, ap, ◌∙◌, inl, inr, add-zero, arith}
-use Rattle.std.specs.List.{AllByRecursion as All}
+use Rattle.std.specs.List.{AllByRecursion}
 use Rattle.std.proofs.lemmas.Bool.Decides.{leb_tells}
 use Rattle.pulses.specs.declared.pulse.Pulse.{Pulse}
 use Rattle.pulses.specs.declared.pulse.Sign.{Sign}
@@ -24,12 +24,12 @@ put_length zero p (q ∷ qs) = refl
 put_length (suc n) p (q ∷ qs) =
     put_cases (λ r. length r ≡ suc (length qs)) n p q qs (λ _. ap suc (put_length n q qs)) (λ _. ap suc (put_length n p qs))
 
-pub put_all : (P : Pulse → Type 0) (n : ℕ) (p : Pulse) (row : List Pulse) → n < length row → P p → All P (take n row) → All P (take (suc n) (put n p row))
+pub put_all : (P : Pulse → Type 0) (n : ℕ) (p : Pulse) (row : List Pulse) → n < length row → P p → AllByRecursion P (take n row) → AllByRecursion P (take (suc n) (put n p row))
 unfolding put
 put_all P n p [] l a us = absurd (omega arith)
 put_all P zero p (q ∷ qs) l a us = (a, tt)
 put_all P (suc n) p (q ∷ qs) l a us =
-    put_cases (λ r. All P (take (suc (suc n)) r)) n p q qs
+    put_cases (λ r. AllByRecursion P (take (suc (suc n)) r)) n p q qs
     (λ _. (a, put_all P n q qs (omega arith) us.0 us.1))
     (λ _. (us.0, put_all P n p qs (omega arith) a us.1))
 
@@ -43,7 +43,7 @@ put_tally x s (suc n) p (q ∷ qs) l =
     (λ _. let h = put_tally x s n q qs (omega arith) in omega arith)
     (λ _. let h = put_tally x s n p qs (omega arith) in omega arith)
 
-all_from_le : (m n : ℕ) (ps : List Pulse) → m ≤ n → All (λ q. n ≤ q.place) ps → All (λ q. m ≤ q.place) ps
+all_from_le : (m n : ℕ) (ps : List Pulse) → m ≤ n → AllByRecursion (λ q. n ≤ q.place) ps → AllByRecursion (λ q. m ≤ q.place) ps
 all_from_le m n [] h us = tt
 all_from_le m n (p ∷ ps) h us = (omega (arith, us.0), all_from_le m n ps h us.1)
 
@@ -62,8 +62,8 @@ unfolding line_up
 line_up_length [] n row = refl
 line_up_length (p ∷ ps) n row = line_up_length ps (suc n) (put n p row) ∙ put_length n p row
 
-pub line_up_all : (P : Pulse → Type 0) (ps : List Pulse) (n : ℕ) (row : List Pulse) → n + length ps ≤ length row → All P ps → All P (take n row)
-    → All P (take (n + length ps) (line_up ps n row))
+pub line_up_all : (P : Pulse → Type 0) (ps : List Pulse) (n : ℕ) (row : List Pulse) → n + length ps ≤ length row → AllByRecursion P ps → AllByRecursion P (take n row)
+    → AllByRecursion P (take (n + length ps) (line_up ps n row))
 unfolding line_up
 line_up_all P [] n row h us bs = rw add-zero bs
 line_up_all P (p ∷ ps) n row h us bs =

@@ -2,7 +2,7 @@
 use Rattle.std.proofs.Common.{◌≡◌, ℕ, ◌<◌, ◌≤◌, leb, List, [], ◌∷◌, sym, refl, ap, ◌∙◌, subst, ap₂, inl, inr, ⊎_elim, arith}
 use Rattle.pulses.specs.declared.pulse.Sign.{Sign}
 use Rattle.pulses.specs.declared.pulse.Sign.TheVariants.{Plus, Minus}
-use Rattle.std.specs.List.{AllByRecursion as All}
+use Rattle.std.specs.List.{AllByRecursion}
 use Rattle.std.proofs.lemmas.Bool.{cases_eq, leb-true, leb-false, cond_both}
 use Rattle.std.proofs.ByRecursion.{All-weaker}
 use Rattle.pulses.specs.declared.pulse.Pulse.{Pulse}
@@ -10,7 +10,7 @@ use Rattle.pulses.specs.Pulses.{pulse, hit, tally, Same, Lawful, Sorted, EqualAm
 use Rattle.pulses.proofs.Tallies.{hit_self, hit_apart}
 
 -- where every place is at least m, a pulse that is there is at m or above
-least : (m : ℕ) (ps : List Pulse) (x : ℕ) (s : Sign) → All (λ q. m ≤ q.place) ps → 0 < tally ps x s → m ≤ x
+least : (m : ℕ) (ps : List Pulse) (x : ℕ) (s : Sign) → AllByRecursion (λ q. m ≤ q.place) ps → 0 < tally ps x s → m ≤ x
 least m [] x s a h = absurd (omega arith)
 least m (p ∷ ps) x s a h =
     ⊎_elim (λ e. omega (arith, a.0))
@@ -64,11 +64,11 @@ unfolding sort
 same_sort [] x s = refl
 same_sort (p ∷ ps) x s = omega (arith, same_insert p (sort ps) x s, same_sort ps x s)
 
-all_insert : (m : ℕ) (p : Pulse) (ps : List Pulse) → m ≤ p.place → All (λ q. m ≤ q.place) ps → All (λ q. m ≤ q.place) (insert p ps)
+all_insert : (m : ℕ) (p : Pulse) (ps : List Pulse) → m ≤ p.place → AllByRecursion (λ q. m ≤ q.place) ps → AllByRecursion (λ q. m ≤ q.place) (insert p ps)
 unfolding insert
 all_insert m p [] h a = (h, tt)
 all_insert m p (q ∷ qs) h a =
-    cond_both (leb p.place q.place) (p ∷ q ∷ qs) (q ∷ insert p qs) (λ z. All (λ q. m ≤ q.place) z) (λ e. (h, a)) (λ e. (a.0, all_insert m p qs h a.1))
+    cond_both (leb p.place q.place) (p ∷ q ∷ qs) (q ∷ insert p qs) (λ z. AllByRecursion (λ q. m ≤ q.place) z) (λ e. (h, a)) (λ e. (a.0, all_insert m p qs h a.1))
 
 sorted_insert : (p : Pulse) (ps : List Pulse) → Sorted ps → Sorted (insert p ps)
 unfolding insert

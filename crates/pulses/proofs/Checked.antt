@@ -1,6 +1,6 @@
 -- What the questions to a track's pulses tell, and what stands in a row put in order.
 use Rattle.std.proofs.Common.{◌≡◌, ℕ, zero, suc, ◌+◌, ◌-◌, ◌^◌, ◌<◌, ◌≤◌, Bool, true, false, ◌&&◌, eqb, leb, ◌⊎◌, List, [], ◌∷◌, ◌++◌, length, take, drop, replicate, Ok, Err, sym, refl, ap, ◌∙◌, subst, ap₂, inl, inr, ⊎_elim, zero-add, arith}
-use Rattle.std.specs.List.{AllByRecursion as All}
+use Rattle.std.specs.List.{AllByRecursion}
 use Rattle.std.proofs.lemmas.List.{length-take, get_or-take, take-append-drop, drop-drop, drop-replicate}
 use Rattle.std.proofs.ByRecursion.{All-get_or, All-from_get_or}
 use Rattle.std.proofs.lemmas.Bool.{leb-true, le-leb, ltb-true, lt-ltb, eqb-true, eq-eqb, cases_lt, cond_both, true≢false}
@@ -25,11 +25,11 @@ true_and : (a b : Bool) → a ≡ true → b ≡ true → (a && b) ≡ true
 true_and true b h k = k
 true_and false b h k = absurd (true≢false (sym h))
 
-pub all_from_test : {X : Type 0} (f : X → Bool) (P : X → Type 0) → ((x : X) → f x ≡ true → P x) → (xs : List X) → every f xs ≡ true → All P xs
+pub all_from_test : {X : Type 0} (f : X → Bool) (P : X → Type 0) → ((x : X) → f x ≡ true → P x) → (xs : List X) → every f xs ≡ true → AllByRecursion P xs
 all_from_test f P g [] h = tt
 all_from_test f P g (x ∷ xs) h = let t = and_true (f x) (every f xs) h in (g x t.0, all_from_test f P g xs t.1)
 
-pub test_from_all : {X : Type 0} (f : X → Bool) (P : X → Type 0) → ((x : X) → P x → f x ≡ true) → (xs : List X) → All P xs → every f xs ≡ true
+pub test_from_all : {X : Type 0} (f : X → Bool) (P : X → Type 0) → ((x : X) → P x → f x ≡ true) → (xs : List X) → AllByRecursion P xs → every f xs ≡ true
 test_from_all f P g [] a = refl
 test_from_all f P g (x ∷ xs) a = true_and (f x) (every f xs) (g x a.0) (test_from_all f P g xs a.1)
 
@@ -45,7 +45,7 @@ test_from_on M ps a = test_from_all _ (λ p. p.place < 2 ^ M) (λ p l. lt-ltb p.
 abbrev Alone : List Pulse → Pulse → Type 0
 Alone zs p = tally zs p.place (opposite p.sign) ≡ 0
 
-alone_at : (zs ps : List Pulse) (x : ℕ) (s : Sign) → All (Alone zs) ps → 0 < tally ps x s → tally zs x (opposite s) ≡ 0
+alone_at : (zs ps : List Pulse) (x : ℕ) (s : Sign) → AllByRecursion (Alone zs) ps → 0 < tally ps x s → tally zs x (opposite s) ≡ 0
 alone_at zs [] x s a h = absurd (omega arith)
 alone_at zs (p ∷ ps) x s a h =
     ⊎_elim (λ e. alone_at zs ps x s a.1 (omega arith))
@@ -65,7 +65,7 @@ alone zs p l h = by p.place p.sign h (l p.place)
     by x Plus h l = ⊎_elim (λ e. absurd (omega arith)) (λ e. e) l
     by x Minus h l = ⊎_elim (λ e. e) (λ e. absurd (omega arith)) l
 
-all_alone : (zs ps : List Pulse) → Lawful zs → ((x : ℕ) (s : Sign) → tally ps x s ≤ tally zs x s) → All (Alone zs) ps
+all_alone : (zs ps : List Pulse) → Lawful zs → ((x : ℕ) (s : Sign) → tally ps x s ≤ tally zs x s) → AllByRecursion (Alone zs) ps
 all_alone zs [] l h = tt
 all_alone zs (p ∷ ps) l h =
     (alone zs p l (omega (arith, h p.place p.sign, hit_self p.place p.sign)), all_alone zs ps l (λ x s. omega (arith, h x s)))

@@ -1,7 +1,7 @@
 -- The two halves of a set of pulses.
 use Rattle.std.proofs.Common.{◌≡◌, ℕ, zero, suc, ◌+◌, ◌-◌, ◌*◌, ◌/◌, ◌%◌, ◌^◌, ◌<◌, ◌≤◌, cond, eqb, leb, List, [], ◌∷◌, ◌++◌, map, length, take, drop, filter, sym, refl, ap, ◌∙◌, subst, ap₂, ⊎_elim, arith}
 use Rattle.pulses.specs.declared.pulse.Sign.{Sign}
-use Rattle.std.specs.List.{AllByRecursion as All}
+use Rattle.std.specs.List.{AllByRecursion}
 use Rattle.std.proofs.lemmas.Bool.{eq-eqb, ne_eqb, cases_eq, leb-true, leb-false, cond_both}
 use Rattle.std.proofs.lemmas.Nat.{pow_pos, mod_below, div_below, div-add-mod', div-mul-add, mod-mul-add}
 use Rattle.std.proofs.lemmas.List.{length-map, length-append, length-take, length-drop, take-append-drop, map-append, append-nil}
@@ -35,7 +35,7 @@ pub on_half : (H h : ℕ) (ps : List Pulse) → On H (half H h ps)
 unfolding half
 on_half H h ps = All-map (λ p. p.place < 2 ^ H) (λ q. pulse (q.place % 2 ^ H) q.sign) (filter (λ q. eqb (q.place / 2 ^ H) h) ps) (every (filter (λ q. eqb (q.place / 2 ^ H) h) ps))
   where
-    every : (qs : List Pulse) → All (λ q. q.place % 2 ^ H < 2 ^ H) qs
+    every : (qs : List Pulse) → AllByRecursion (λ q. q.place % 2 ^ H < 2 ^ H) qs
     every [] = tt
     every (q ∷ qs) = (mod_below q.place (2 ^ H) (pow_pos H), every qs)
 
@@ -198,10 +198,10 @@ full k H n ps m g =
     record { is_half = omega arith; has = omega (arith, r.long); else = λ f. l })
 
 -- a half keeps the order
-all_half : (H h m : ℕ) (ps : List Pulse) → All (λ q. m + h * 2 ^ H ≤ q.place) ps → All (λ q. m ≤ q.place) (half H h ps)
-all_half H h m [] a = let P : List Pulse → Type 0 = λ z. All (λ q. m ≤ q.place) z in subst P (sym (half_none H h)) tt
+all_half : (H h m : ℕ) (ps : List Pulse) → AllByRecursion (λ q. m + h * 2 ^ H ≤ q.place) ps → AllByRecursion (λ q. m ≤ q.place) (half H h ps)
+all_half H h m [] a = let P : List Pulse → Type 0 = λ z. AllByRecursion (λ q. m ≤ q.place) z in subst P (sym (half_none H h)) tt
 all_half H h m (p ∷ ps) a =
-    let P : List Pulse → Type 0 = λ z. All (λ q. m ≤ q.place) z in
+    let P : List Pulse → Type 0 = λ z. AllByRecursion (λ q. m ≤ q.place) z in
     ⊎_elim
     (λ e.
     subst P (sym (half_in H h p ps e))
@@ -226,7 +226,7 @@ sorted_take zero ps a = tt
 sorted_take (suc k) [] a = tt
 sorted_take (suc k) (p ∷ ps) a = (All-take _ k ps a.0, sorted_take k ps a.1)
 
-pub lowest_first : (k : ℕ) (ps : List Pulse) → Sorted ps → All (λ p. All (λ q. p.place ≤ q.place) (drop k ps)) (take k ps)
+pub lowest_first : (k : ℕ) (ps : List Pulse) → Sorted ps → AllByRecursion (λ p. AllByRecursion (λ q. p.place ≤ q.place) (drop k ps)) (take k ps)
 lowest_first zero ps a = tt
 lowest_first (suc k) [] a = tt
 lowest_first (suc k) (p ∷ ps) a = (All-drop _ k ps a.0, lowest_first k ps a.1)
@@ -265,7 +265,7 @@ half_others H h k ps b =
 
 pub takes_lowest : (H h k : ℕ) (ps : List Pulse) → h < 2 → Sorted ps → Lowest Choice.house (take k (half H h ps)) (half H h (others k H h ps))
 takes_lowest H h k ps b a =
-    let P : List Pulse → Type 0 = λ z. All (λ p. All (λ q. p.place ≤ q.place) z) (take k (half H h ps)) in
+    let P : List Pulse → Type 0 = λ z. AllByRecursion (λ p. AllByRecursion (λ q. p.place ≤ q.place) z) (take k (half H h ps)) in
     subst P (sym (half_others H h k ps b)) (lowest_first k (half H h ps) (sorted_half H h ps a))
 
 pub takes_lower : (H h : ℕ) (ps : List Pulse) → Full 2 H ps h → LowerFirst Choice.house H h ps

@@ -1,6 +1,6 @@
 -- In a sorted list no place has both signs just where neighbours of different signs are at least a place apart.
 use Rattle.std.proofs.Common.{◌≡◌, ℕ, zero, suc, ◌+◌, ◌<◌, ◌≤◌, Bool, true, false, cond, ◌&&◌, eqb, ◌⊎◌, List, [], ◌∷◌, length, refl, subst, inl, inr, arith}
-use Rattle.std.specs.List.{AllByRecursion as All}
+use Rattle.std.specs.List.{AllByRecursion}
 use Rattle.std.proofs.lemmas.Bool.Decides.{nat_tests, eqb_tells}
 use Rattle.std.proofs.ByRecursion.{All-get_or}
 use Rattle.pulses.specs.declared.pulse.Pulse.{Pulse}
@@ -37,11 +37,11 @@ step_trans p q r a b = omega (arith, triangle p.sign q.sign r.sign)
 pub tail : (p : Pulse) (ps : List Pulse) → Steps (p ∷ ps) → Steps ps
 tail p ps h k l = let e : suc k + 1 ≡ suc (k + 1) = omega arith in rw e at (h (suc k) (omega arith))
 
-step_all : (p q : Pulse) (ps : List Pulse) → Step p q → All (Step q) ps → All (Step p) ps
+step_all : (p q : Pulse) (ps : List Pulse) → Step p q → AllByRecursion (Step q) ps → AllByRecursion (Step p) ps
 step_all p q [] h us = tt
 step_all p q (r ∷ rs) h us = (step_trans p q r h us.0, step_all p q rs h us.1)
 
-pub follows : (p : Pulse) (ps : List Pulse) → Steps (p ∷ ps) → All (Step p) ps
+pub follows : (p : Pulse) (ps : List Pulse) → Steps (p ∷ ps) → AllByRecursion (Step p) ps
 follows p [] h = tt
 follows p (q ∷ qs) h =
     let first : Step p q = h 0 (omega arith) in
@@ -58,7 +58,7 @@ raw a b Plus Minus Plus e h = grind (arith, nat_tests)
 raw a b Plus Plus Minus e h = grind (arith, nat_tests)
 raw a b Plus Plus Plus e h = grind (arith, nat_tests)
 
-no_other : (p : Pulse) (s : Sign) (ps : List Pulse) → alike p.sign s ≡ false → All (Step p) ps → tally ps p.place s ≡ 0
+no_other : (p : Pulse) (s : Sign) (ps : List Pulse) → alike p.sign s ≡ false → AllByRecursion (Step p) ps → tally ps p.place s ≡ 0
 unfolding hit apart
 no_other p s [] e us = refl
 no_other p s (q ∷ qs) e us =

@@ -2,7 +2,7 @@
 use Rattle.std.proofs.Common.{◌≡◌, ℕ, suc, ◌+◌, ◌-◌, ◌*◌, ◌/◌, ◌%◌, ◌^◌, ◌<◌, ◌≤◌, leb, List, [], ◌∷◌, ◌++◌, length, take, drop, sym, refl, ap, ◌∙◌, subst, ap₂, ⊎_elim, arith}
 use Rattle.pulses.specs.declared.pulse.Sign.{Sign}
 use Rattle.pulses.specs.declared.pulse.Sign.TheVariants.{Plus, Minus}
-use Rattle.std.specs.List.{AllByRecursion as All}
+use Rattle.std.specs.List.{AllByRecursion}
 use Rattle.std.proofs.lemmas.Bool.{cases_eq, cases_lt, le-leb, lt-leb, cond_both, cond-true, cond-false}
 use Rattle.std.proofs.lemmas.Nat.{div-add-mod', div-mul-add}
 use Rattle.std.proofs.lemmas.List.{length-append, take_at, append-nil, take-append-drop}
@@ -18,17 +18,17 @@ use Rattle.pulses.proofs.Houses.{one_houses, two_houses, group_size}
 use Rattle.pulses.proofs.Canon.{same_sorted, same_sort, sorted_sort, sort_is}
 
 -- what holds of every place, by tallies
-all_tally : (P : ℕ → Type 0) (ps : List Pulse) → ((x : ℕ) (s : Sign) → 0 < tally ps x s → P x) → All (λ p. P p.place) ps
+all_tally : (P : ℕ → Type 0) (ps : List Pulse) → ((x : ℕ) (s : Sign) → 0 < tally ps x s → P x) → AllByRecursion (λ p. P p.place) ps
 all_tally P [] f = tt
 all_tally P (p ∷ ps) f =
     (f p.place p.sign (omega (arith, hit_self p.place p.sign)), all_tally P ps (λ x s h. f x s (omega arith)))
 
-tally_all : (P : ℕ → Type 0) (ps : List Pulse) (x : ℕ) (s : Sign) → All (λ p. P p.place) ps → 0 < tally ps x s → P x
+tally_all : (P : ℕ → Type 0) (ps : List Pulse) (x : ℕ) (s : Sign) → AllByRecursion (λ p. P p.place) ps → 0 < tally ps x s → P x
 tally_all P [] x s a h = absurd (omega arith)
 tally_all P (p ∷ ps) x s a h =
     ⊎_elim (λ e. subst P e a.0) (λ e. tally_all P ps x s a.1 (omega (arith, hit_apart p.place x p.sign s e))) (cases_eq p.place x)
 
-pub all_same : (P : ℕ → Type 0) (ps qs : List Pulse) → Same ps qs → All (λ p. P p.place) qs → All (λ p. P p.place) ps
+pub all_same : (P : ℕ → Type 0) (ps qs : List Pulse) → Same ps qs → AllByRecursion (λ p. P p.place) qs → AllByRecursion (λ p. P p.place) ps
 all_same P ps qs e a = all_tally P ps (λ x s h. tally_all P qs x s a (omega (arith, e x s)))
 
 length_insert : (p : Pulse) (ps : List Pulse) → length (insert p ps) ≡ suc (length ps)
@@ -78,16 +78,16 @@ same_half H h ps qs e x s =
     ⊎_elim (λ l. tally_half H h ps x s l ∙ e (x + h * 2 ^ H) s ∙ sym (tally_half H h qs x s l))
     (λ l. half_past H h ps x s l ∙ sym (half_past H h qs x s l)) (cases_lt x (2 ^ H))
 
-pub sorted_join : (ps qs : List Pulse) → Sorted ps → Sorted qs → All (λ p. All (λ q. p.place ≤ q.place) qs) ps → Sorted (ps ++ qs)
+pub sorted_join : (ps qs : List Pulse) → Sorted ps → Sorted qs → AllByRecursion (λ p. AllByRecursion (λ q. p.place ≤ q.place) qs) ps → Sorted (ps ++ qs)
 sorted_join [] qs a b u = b
 sorted_join (p ∷ ps) qs a b u = (All-append _ ps qs a.0 u.0, sorted_join ps qs a.1 b u.1)
 
-lowest_same : (ps qs js ks : List Pulse) → Same ps js → Same qs ks → All (λ p. All (λ q. p.place ≤ q.place) ks) js
-    → All (λ p. All (λ q. p.place ≤ q.place) qs) ps
+lowest_same : (ps qs js ks : List Pulse) → Same ps js → Same qs ks → AllByRecursion (λ p. AllByRecursion (λ q. p.place ≤ q.place) ks) js
+    → AllByRecursion (λ p. AllByRecursion (λ q. p.place ≤ q.place) qs) ps
 lowest_same ps qs js ks e f u =
-    all_same (λ x. All (λ q. x ≤ q.place) qs) ps js e
-    (all_tally (λ x. All (λ q. x ≤ q.place) qs) js
-    (λ x s h. all_same (λ y. x ≤ y) qs ks f (tally_all (λ y. All (λ q. y ≤ q.place) ks) js x s u h)))
+    all_same (λ x. AllByRecursion (λ q. x ≤ q.place) qs) ps js e
+    (all_tally (λ x. AllByRecursion (λ q. x ≤ q.place) qs) js
+    (λ x s h. all_same (λ y. x ≤ y) qs ks f (tally_all (λ y. AllByRecursion (λ q. y ≤ q.place) ks) js x s u h)))
 
 -- the lowest k of a half are the group that the rules took
 pub record Took (H h k : ℕ) (qs group rest : List Pulse) : Type 0 where

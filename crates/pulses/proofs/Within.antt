@@ -2,7 +2,7 @@
 use Rattle.std.proofs.Common.{◌≡◌, ℕ, zero, suc, ◌+◌, ◌-◌, ◌*◌, ◌/◌, ◌%◌, ◌^◌, ◌<◌, ◌≤◌, cond, leb, ◌⊎◌, List, [], ◌∷◌, ◌++◌, length, take, drop, sym, refl, ap, ◌∙◌, subst, ap₂, ⊎_elim, arith}
 use native.Mathlib.Nat.{div-eq_of_lt}
 use lib.Pow.{mod-mod-pow}
-use Rattle.std.specs.List.{AllByRecursion as All}
+use Rattle.std.specs.List.{AllByRecursion}
 use Rattle.std.proofs.lemmas.Nat.{pow_pos, div_below, mod_below, div-add-mod'}
 use Rattle.std.proofs.lemmas.List.{length-map, map-append, take-map, drop-map, take-take, take-append-drop, drop-append-le, drop-drop, length-take, length-append, append-nil}
 use Rattle.std.proofs.ByRecursion.{All-drop}
@@ -45,7 +45,7 @@ on_down M (p ∷ ps) = (mod_below p.place (2 ^ M) (pow_pos M), on_down M ps)
 
 -- lists that lie in one half
 abbrev InHalf : ℕ → ℕ → List Pulse → Type 0
-InHalf H h ps = All (λ p. p.place / 2 ^ H ≡ h) ps
+InHalf H h ps = AllByRecursion (λ p. p.place / 2 ^ H ≡ h) ps
 
 half_all : (H h : ℕ) (ps : List Pulse) → InHalf H h ps → half H h ps ≡ down H ps
 unfolding down
@@ -73,7 +73,7 @@ upper H x l h =
     let n : x / 2 ^ H ≡ 0 → ⊥ = λ e. omega (arith, div-add-mod' x (2 ^ H), ap (λ z. z * 2 ^ H) e, mod_below x (2 ^ H) (pow_pos H)) in
     omega arith
 
-all_upper : (H m : ℕ) (ps : List Pulse) → 2 ^ H ≤ m → On (suc H) ps → All (λ q. m ≤ q.place) ps → InHalf H 1 ps
+all_upper : (H m : ℕ) (ps : List Pulse) → 2 ^ H ≤ m → On (suc H) ps → AllByRecursion (λ q. m ≤ q.place) ps → InHalf H 1 ps
 all_upper H m [] h o a = tt
 all_upper H m (p ∷ ps) h o a = (upper H p.place o.0 (omega (arith, a.0)), all_upper H m ps h o.1 a.1)
 
@@ -144,7 +144,7 @@ sorted_drop (suc k) [] a = tt
 sorted_drop (suc k) (p ∷ ps) a = sorted_drop k ps a.1
 
 -- a sorted list without a part of it
-all_all_drop : (k : ℕ) (ps qs : List Pulse) → All (λ p. All (λ q. p.place ≤ q.place) qs) ps → All (λ p. All (λ q. p.place ≤ q.place) (drop k qs)) ps
+all_all_drop : (k : ℕ) (ps qs : List Pulse) → AllByRecursion (λ p. AllByRecursion (λ q. p.place ≤ q.place) qs) ps → AllByRecursion (λ p. AllByRecursion (λ q. p.place ≤ q.place) (drop k qs)) ps
 all_all_drop k [] qs a = tt
 all_all_drop k (p ∷ ps) qs a = (All-drop _ k qs a.0, all_all_drop k ps qs a.1)
 

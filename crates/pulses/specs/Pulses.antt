@@ -13,7 +13,7 @@
 --   half H h ps      what stands in half h of a track of width H + 1, counted from that half's first place
 --   sort ps          ps from the lowest place up
 use Rattle.std.specs.Prelude.{◌≡◌, ℕ, ◌+◌, ◌/◌, ◌%◌, ◌^◌, ◌<◌, ◌≤◌, Bool, true, false, cond, ◌&&◌, ◌⊎◌, List, [], ◌∷◌, map, length, filter, ◌==◌, nat_eq, nat_le}
-use Rattle.std.specs.List.{AllByRecursion as All}
+use Rattle.std.specs.List.{AllByRecursion}
 use Rattle.pulses.specs.declared.pulse.Pulse.{Pulse}
 use Rattle.pulses.specs.declared.pulse.Sign.{Sign}
 use Rattle.pulses.specs.declared.pulse.Sign.TheVariants.{Plus, Minus}
@@ -50,11 +50,11 @@ abbrev pub Lawful : List Pulse → Type 0
 Lawful ps = (x : ℕ) → (tally ps x Plus ≡ 0) ⊎ (tally ps x Minus ≡ 0)
 
 abbrev pub On : ℕ → List Pulse → Type 0
-On M ps = All (λ p. p.place < 2 ^ M) ps
+On M ps = AllByRecursion (λ p. p.place < 2 ^ M) ps
 
 abbrev pub Sorted : List Pulse → Type 0
 Sorted [] = Unit {0}
-Sorted (p ∷ ps) = All (λ q. p.place ≤ q.place) ps × Sorted ps
+Sorted (p ∷ ps) = AllByRecursion (λ q. p.place ≤ q.place) ps × Sorted ps
 
 pub record Group (M n : ℕ) (ps : List Pulse) : Type 0 where
   pub size : length ps ≡ n

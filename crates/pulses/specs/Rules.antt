@@ -6,7 +6,7 @@
 --   bits n M             how many bits an index of n pulses on a track of width M has
 -- The width M is suc H where a rule speaks of halves: half h begins at place h * 2 ^ H, and a group named with a half is on width H.
 use Rattle.std.specs.Prelude.{◌≡◌, ℕ, zero, suc, ◌+◌, ◌-◌, ◌*◌, ◌^◌, ◌<◌, ◌≤◌, List, [], ◌∷◌, ◌++◌, length}
-use Rattle.std.specs.List.{AllByRecursion as All}
+use Rattle.std.specs.List.{AllByRecursion}
 use Rattle.pulses.specs.declared.pulse.Pulse.{Pulse}
 use Rattle.pulses.specs.declared.pulse.Sign.{Sign}
 use Rattle.pulses.specs.Pulses.{pulse, bit, opposite, Same, up, half}
@@ -17,7 +17,7 @@ pub data Choice : Type 0 where
 -- the house takes the lowest: no pulse of the second list stands below one of the first
 abbrev pub Lowest : Choice → List Pulse → List Pulse → Type 0
 Lowest free ps qs = Unit {0}
-Lowest house ps qs = All (λ p. All (λ q. p.place ≤ q.place) qs) ps
+Lowest house ps qs = AllByRecursion (λ p. AllByRecursion (λ q. p.place ≤ q.place) qs) ps
 
 -- the house takes a pair out of half 1 only where half 0 has not two
 abbrev pub LowerFirst : Choice → ℕ → ℕ → List Pulse → Type 0

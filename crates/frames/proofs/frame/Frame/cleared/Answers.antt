@@ -6,7 +6,7 @@ use Rattle.frames.proofs.frame.Frame.cleared.Goals as goal
 pub invariant_of-result : goal.invariant_of-result
 invariant_of-result c =
     let m = c.args.mode in
-    (blank_fit m, (blank_on m, (blank_rising m, (blank_padded m, (blank_long, (refl, (refl, tt)))))))
+    record { fit = blank_fit m; on = blank_on m; rising = blank_rising m; padded = blank_padded m; long = blank_long; cells = refl; rows = refl }
 
 pub returns : goal.returns
 returns c = record {

@@ -11,7 +11,7 @@ invariant_of-self c =
     let h = below_from_shr c.args.value c.field_bits-bits.result c.if-value-bits-ne0.false in
     let fits : c.args.value < 2 ^ width f.mode x = rw e at h in
     let fit = fit_set f.mode f.values x c.args.value (omega (arith, f.cells)) (omega arith) fits f.fit in
-    (rw (← c.cell.ensures) at fit, (f.on, (f.rising, (f.padded, (f.long, (length-set f.values _ _ ∙ f.cells, (f.rows, tt)))))))
+    record { fit = rw (← c.cell.ensures) at fit; on = f.on; rising = f.rising; padded = f.padded; long = f.long; cells = length-set f.values _ _ ∙ f.cells; rows = f.rows }
 
 pub returns : goal.returns
 returns c =

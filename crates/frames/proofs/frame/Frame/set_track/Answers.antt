@@ -23,19 +23,15 @@ invariant_of-self c =
     let a = rw (c.pulses_in-count.ensures.is, c.track_width.ensures.is) at c.in-Ok.ensures in
     let g = taken_ok (pulses_in m s t) (row m).places c.args.pulses.now c.in-Ok.row few a in
     let h : LawfulRow (pulses_in m s t) (row m).places c.in-Ok.row = rw g.1 (taken_row (pulses_in m s t) (row m).places c.args.pulses.now few g.0) in
-    let l : 4 * s + t < length f.tracks = omega (arith, in') in (
-      f.fit,
-      (
-        on_set m s t f.tracks _ l h f.on,
-        (
-          rising_set m s t f.tracks _ l in'.0 in'.1 h f.rising,
-          (
-            padded_set m s t f.tracks _ l in'.0 in'.1 h f.padded,
-            (long_set m s t f.tracks _ l h f.long, (f.cells, (length-set f.tracks (4 * s + t) c.in-Ok.row ∙ f.rows, tt))),
-          ),
-        ),
-      ),
-    )
+    let l : 4 * s + t < length f.tracks = omega (arith, in') in record {
+      fit = f.fit;
+      on = on_set m s t f.tracks _ l h f.on;
+      rising = rising_set m s t f.tracks _ l in'.0 in'.1 h f.rising;
+      padded = padded_set m s t f.tracks _ l in'.0 in'.1 h f.padded;
+      long = long_set m s t f.tracks _ l h f.long;
+      cells = f.cells;
+      rows = length-set f.tracks (4 * s + t) c.in-Ok.row ∙ f.rows;
+    }
 
 pub returns-in-Ok : goal.returns-in-Ok
 returns-in-Ok c =
