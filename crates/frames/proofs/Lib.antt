@@ -12,3 +12,4 @@ pub mod Ordered
 pub mod Houses
 pub mod Written
 pub mod Agreeing
+pub mod Matching

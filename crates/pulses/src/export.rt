@@ -112,13 +112,7 @@ fn hand_out(pulses: &[Pulse], out: &mut [u8]) -> i32
 
 /// [`read_index`] for C, into octets. Answers the number of pulses, or minus
 /// the number of the refusal, which leaves `out` as it was.
-pub fn vilchuqa_read_index(
-    pulses: u32,
-    width: u32,
-    index: u32,
-    strict: bool,
-    out: &mut [u8],
-) -> i32
+pub fn vilchuqa_read_index(pulses: u32, width: u32, index: u32, strict: bool, out: &mut [u8]) -> i32
     ensures answer { result ≡ answer_of (handed (length out.old) (read_index (way_of strict) pulses width index)) }
     ensures buffer { out.new ≡ filled_octets out.old (read_index (way_of strict) pulses width index) }
 {

@@ -1,7 +1,15 @@
-use Rattle.std.proofs.Common.{rules, ◌≡◌, Decides, ℕ, ◌+◌, ◌-◌, ◌*◌, ◌<◌, ◌≤◌, length, ◌/◌, ◌%◌, Bool, true, false, nat_eq, nat_lt, List, [], ◌∷◌, ◌++◌, slice_index_or, slice_set, bit_and, bit_or, Fits, w8, w32, w64, Bor, MutBor}
-use Rattle.frames.specs.Bits.{frame_bits, Agree, LengthIsPlanned, ReadingUndoesWriting, ValuesTellRecords, EqualBitsAgree, RecordIsItsParts}
+use Rattle.std.proofs.Common.{◌≡◌, sym, ap, ◌∙◌, rules}
+use Rattle.std.proofs.lemmas.Bool.{not-false}
+use Rattle.std.proofs.lemmas.Bool.Decides.{Decides-at}
+use Rattle.frames.proofs.Alike.{frame_same}
+use Rattle.frames.proofs.Matching.{values_decide, rows_decide}
 use Rattle.frames.proofs.frame.Frame.same_parts.Goals as goal
 
--- src/frame/agreement.rt:8:5
 pub returns : goal.returns
-returns c = ?
+returns c =
+    let f = c.args.self.now in
+    let g = c.args.other.now in
+    let em : f.mode ≡ g.mode = search rules in
+    let ev = (values_decide f.values g.values).0 (not-false _ (sym c.ne-2.ensures ∙ c.if-ne-2.false)) in
+    let d = Decides-at _ _ c.eq.ensures (rows_decide f.tracks g.tracks) in
+    ((λ e. frame_same f g em ev (d.0 e)), (λ e. d.1 (ap (λ f. f.tracks) e)))
