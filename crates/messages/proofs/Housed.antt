@@ -88,7 +88,7 @@ high_has m s t h =
     (cases_lt 0 (pulses_in m s t))
 
 asked : (f : Frame) (p : Part) → 0 < part_width f.mode p → questioned Strict f.mode (sent_of f).values p (part_width f.mode p) (held (sent_of f) p) ≡ Ok tt
-unfolding track_asked
+unfolding questioned
 asked f (Value x) has = refl
 asked f (High s t) has = refl
 asked f (Low s t) has =

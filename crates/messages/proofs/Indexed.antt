@@ -57,7 +57,7 @@ module _ (how : Reading) (f : Frame) (g : Part → ℕ) (by : By how f g) where
       (used_in f.mode s t has, (by.indices s t has, (r.group.lawful, r.sorted)))
 
   asked : (p : Part) → 0 < part_width f.mode p → questioned how f.mode (sent_by f g).values p (part_width f.mode p) (held (sent_by f g) p) ≡ Ok tt
-  unfolding track_asked
+  unfolding questioned
   asked (Value x) has = refl
   asked (High s t) has = refl
   asked (Low s t) has =

@@ -1,4 +1,5 @@
 pub mod Questions
+pub mod Asked
 pub mod Steps
 pub mod Turning
 pub mod Nths

@@ -14,6 +14,7 @@ use Rattle.modes.specs.declared.plan.Slot.{Slot}
 use Rattle.modes.specs.Modes.{row, pulses_in}
 use Rattle.modes.specs.Plan.{plan, total}
 use Rattle.frames.specs.Bits.{place_of}
+use Rattle.messages.proofs.Asked.{by_begun}
 use Rattle.messages.specs.declared.turns.Next.{Next}
 use Rattle.messages.specs.declared.turns.Next.TheVariants.{End, Frame, Refused}
 use Rattle.messages.specs.Messages.{Content, content, and_then, bare, spotted, slot_spot, settled, joined, field, track_asked, questioned, read_slot, read_slots, blank, begun, turn, next_frame, read_from}
@@ -33,7 +34,7 @@ module _ {X : Type 0} (x : X) where
   then_first (Err d) q f h e = absurd (never x d e)
 
 asked_open : (m : Mode) (vs : List ℕ) (p : Part) (w v : ℕ) → questioned Strict m vs p w v ≡ Ok tt → questioned Open m vs p w v ≡ Ok tt
-unfolding track_asked
+unfolding questioned
 asked_open m vs (Value x) w v e = e
 asked_open m vs (High s t) w v e = e
 asked_open m vs (Low s t) w v e =
@@ -74,8 +75,8 @@ turn_open cs n at (Frame m) o e =
     then_first o (read_slots Strict cs m n (at + 4) (plan m) blank) (read_slots Open cs m n (at + 4) (plan m) blank) (λ vs. Ok (Some (content m vs))) (λ vs. slots_open cs m n (at + 4) (plan m) blank vs) e
 
 next_open : (cs : List Cell) (left n at : ℕ) (o : Option Content) → next_frame Strict cs left n at ≡ Ok o → next_frame Open cs left n at ≡ Ok o
-unfolding next_frame
-next_open cs left n at o e = then_on o (field cs (bare n at) at 4) _ _ (λ v. turn_open cs n at (begun left v) o) e
+next_open cs left n at o e =
+    by_begun Open cs n at left ∙ then_on o (field cs (bare n at) at 4) _ _ (λ v. turn_open cs n at (begun left v) o) (sym (by_begun Strict cs n at left) ∙ e)
 
 from_open : (cs : List Cell) (left at : ℕ) (before bs : List Content) → read_from Strict cs left at before ≡ Ok bs → read_from Open cs left at before ≡ Ok bs
 from_open cs zero at before bs e =

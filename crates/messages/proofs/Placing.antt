@@ -86,7 +86,7 @@ high_before s t h =
 
 -- a question goes by the values of the track alone
 pub asked_same : (how : Reading) (m : Mode) (vs us : List ℕ) (p : Part) (w v : ℕ) → place_of p < 56 → ((q : ℕ) → q < place_of p → get_or us q 0 ≡ get_or vs q 0) → questioned how m vs p w v ≡ questioned how m us p w v
-unfolding track_asked
+unfolding questioned
 asked_same how m vs us (Value x) w v l h = refl
 asked_same how m vs us (High s t) w v l h = refl
 asked_same how m vs us (Low s t) w v l h =
@@ -146,7 +146,7 @@ low_wide m s t h =
     subst P (sym e) (low_by t l.1 m g)
 
 asked_track : (how : Reading) (m : Mode) (us : List ℕ) (s t w v : ℕ) → questioned how m us (Low s t) w v ≡ Ok tt → (ps : List Pulse) × (read_index how (pulses_in m s t) (row m).places (joined (get_or us (place_of (High s t)) 0) w v) ≡ Ok ps)
-unfolding track_asked
+unfolding questioned
 asked_track how m us s t w v e = settled_ok (read_index how (pulses_in m s t) (row m).places (joined (get_or us (place_of (High s t)) 0) w v)) e
 
 pub frame_fine : (how : Reading) (cs : List Cell) (m : Mode) (n at : ℕ) (us : List ℕ) → read_slots how cs m n at (plan m) blank ≡ Ok us → Fine how (content m us)

@@ -20,7 +20,7 @@ use Rattle.modes.specs.declared.plan.Part.TheVariants.{High}
 use Rattle.modes.specs.Modes.{row, pulses_in}
 use Rattle.modes.specs.Plan.{index_bits, high_bits, low_bits}
 use Rattle.frames.specs.Bits.{place_of}
-use Rattle.messages.specs.Messages.{settled, joined, track_asked}
+use Rattle.messages.specs.Messages.{settled, joined, questioned}
 use Rattle.messages.specs.Laws.{TrackRefusals}
 use Rattle.frames.proofs.Houses.{used_in}
 
@@ -57,7 +57,7 @@ high_low w =
     cond_both (eqb w 22) 11 0 (λ h. w ≡ h + (w - h)) (λ e. omega (arith, eqb-true w 22 e)) (λ _. omega arith)))
 
 pub track_refusals : TrackRefusals
-unfolding track_asked
+unfolding questioned
 track_refusals how m vs s t v e has high low h =
     let n = pulses_in m s t in
     let M = (row m).places in

@@ -15,6 +15,7 @@ use Rattle.modes.specs.declared.plan.Slot.{Slot}
 use Rattle.modes.specs.Fields.{part_spot}
 use Rattle.modes.specs.Plan.{plan, total}
 use Rattle.frames.specs.Bits.{place_of}
+use Rattle.messages.proofs.Asked.{by_begun}
 use Rattle.messages.specs.declared.turns.Next.{Next}
 use Rattle.messages.specs.declared.turns.Next.TheVariants.{End, Frame, Refused}
 use Rattle.messages.specs.Messages.{Content, content, and_then, refuse, spot_at, bare, spotted, slot_spot, field, questioned, read_slot, read_slots, blank, filler, ending, begun, turn, next_frame, read_from}
@@ -83,11 +84,10 @@ turn_told how cs n at (Frame m) e h =
     then_told (read_slots how cs m n (at + 4) (plan m) blank) (λ vs. Ok (Some (content m vs))) e (slots_told how cs m n (at + 4) (plan m) blank e) (λ vs g. absurd (never (Some (content m vs)) e (sym g))) h
 
 next_told : (how : Reading) (cs : List Cell) (left n at : ℕ) (e : Refusal) → next_frame how cs left n at ≡ Err e → Told e
-unfolding next_frame
 next_told how cs left n at e h =
     then_told (field cs (bare n at) at 4) (λ v. turn how cs n at (begun left v)) e
     (field_told cs n at at 4 nowhere e)
-    (λ v. turn_told how cs n at (begun left v) e) h
+    (λ v. turn_told how cs n at (begun left v) e) (sym (by_begun how cs n at left) ∙ h)
 
 from_told : (how : Reading) (cs : List Cell) (left at : ℕ) (before : List Content) (e : Refusal) → read_from how cs left at before ≡ Err e → Told e
 from_told how cs zero at before e h =

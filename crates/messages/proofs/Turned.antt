@@ -13,6 +13,7 @@ use Rattle.pulses.proofs.CallLaws.{never, ok_is}
 use Rattle.modes.specs.declared.mode.Mode.{Mode}
 use Rattle.modes.specs.Modes.{number_of, mode_of}
 use Rattle.modes.specs.Plan.{plan, total}
+use Rattle.messages.proofs.Asked.{by_begun}
 use Rattle.messages.specs.declared.turns.Next.{Next}
 use Rattle.messages.specs.declared.turns.Next.TheVariants.{End, Frame, Refused}
 use Rattle.messages.specs.Messages.{Content, content, refuse, bare, field, filler, ending, read_slots, blank, when_mode, begun, turn, next_frame, read_from, read_frames}
@@ -123,9 +124,8 @@ turn_means how cs left n at v o (Frame m) i f e =
     subst (Turned how cs left at) (ok_is (Some (content m vs)) o p.2) is
 
 pub turned : (how : Reading) (cs : List Cell) (left n at : ℕ) (o : Option Content) → next_frame how cs left n at ≡ Ok o → Turned how cs left at o
-unfolding next_frame
 turned how cs left n at o e =
-    let p = then_ok (field cs (bare n at) at 4) (λ v. turn how cs n at (begun left v)) o e in
+    let p = then_ok (field cs (bare n at) at 4) (λ v. turn how cs n at (begun left v)) o (sym (by_begun how cs n at left) ∙ e) in
     let v = p.0 in
     let f = field_spelt cs at 4 v (field_read_back cs n at 4 v p.1) in
     turn_means how cs left n at v o (begun left v) (begun_means left v) f.1 p.2

@@ -7,6 +7,7 @@ use Rattle.carriers.specs.Cells.{Cell}
 use Rattle.pulses.specs.declared.index.Reading.{Reading}
 use Rattle.modes.specs.declared.mode.Mode.{Mode}
 use Rattle.modes.specs.Plan.{plan, total}
+use Rattle.messages.proofs.Asked.{by_begun}
 use Rattle.messages.specs.declared.turns.Next.{Next}
 use Rattle.messages.specs.declared.turns.Next.TheVariants.{End, Frame, Refused}
 use Rattle.messages.specs.Messages.{Content, content, and_then, bare, field, ending, read_slots, blank, begun, turn, next_frame, by_next, read_from}
@@ -16,12 +17,13 @@ module _ (how : Reading) (cs : List Cell) (left n at : ℕ) (p : Spot) (e : p �
   here {r} f = sym (f ∙ ap (λ (q : Spot). field cs q at 4) e)
 
   pub turn_stop : (x : Refusal) → Err x ≡ field cs p at 4 → Err x ≡ next_frame how cs left n at
-  unfolding next_frame
-  turn_stop x f = rw (here f)
+  turn_stop x f = ap (λ (r : Result ℕ Refusal). and_then r (λ v. turn how cs n at (begun left v))) (sym (here f)) ∙ sym (by_begun how cs n at left)
 
   pub turn_by : (v : ℕ) (k : Next) → Ok v ≡ field cs p at 4 → k ≡ begun left v → turn how cs n at k ≡ next_frame how cs left n at
-  unfolding next_frame
-  turn_by v k f h = rw (here f, ← h)
+  turn_by v k f h =
+      ap (turn how cs n at) h
+      ∙ ap (λ (r : Result ℕ Refusal). and_then r (λ v. turn how cs n at (begun left v))) (sym (here f))
+      ∙ sym (by_begun how cs n at left)
 
 -- a turn, by what the mode cells began
 module _ (how : Reading) (cs : List Cell) (n at : ℕ) where

@@ -5,9 +5,9 @@
 --   spotted p r            the answer r; a refusal is told at the spot p
 --   field cs p at w        the number in the w cells from a place on, the field of the spot p
 --   joined h w v           the index of the high part h and of the low part v of w bits
---   completed x            the track that is whole with the part x: with its low part, which comes last
---   track_asked ..          may the value v of w bits be the low part of a track, after the values vs
 --   questioned how m vs x w v   may the value v of w bits stand for the part x, after the values vs: a track is asked with its last part
+--   completed x            the track that is whole with the part x: with its low part, which comes last
+--   track_asked ..         may the value v of w bits be the low part of a track, after the values vs: `questioned` asks just where a track is whole
 --   read_slot, read_slots    one slot of a plan, and the slots one after the other: the values by the places of their parts
 --   blank                  no value yet: 0 at each place; place 56 is no part's
 --   filler at              how many cells there are from a place to the next multiple of eight
@@ -68,6 +68,12 @@ abbrev pub settled : Result (List Pulse) Refusal → Result Unit Refusal
 settled (Ok ps) = Ok tt
 settled (Err e) = Err e
 
+unfoldable pub questioned : Reading → Mode → List ℕ → Part → ℕ → ℕ → Result Unit Refusal
+questioned how m vs (Value x) w v = Ok tt
+questioned how m vs (High s t) w v = Ok tt
+questioned how m vs (Low s t) w v =
+    settled (read_index how (pulses_in m s t) (row m).places (joined (slice_index vs (place_of (High s t))) w v))
+
 abbrev pub completed : Part → Option (ℕ × ℕ)
 completed (Value x) = None
 completed (High s t) = None
@@ -79,9 +85,6 @@ track_asked how m vs w v s t = settled (read_index how (pulses_in m s t) (row m)
 abbrev pub if_whole : Option (ℕ × ℕ) → (ℕ → ℕ → Result Unit Refusal) → Result Unit Refusal
 if_whole None ask = Ok tt
 if_whole (Some x) ask = ask x.0 x.1
-
-abbrev pub questioned : Reading → Mode → List ℕ → Part → ℕ → ℕ → Result Unit Refusal
-questioned how m vs p w v = if_whole (completed p) (track_asked how m vs w v)
 
 abbrev pub slot_spot : ℕ → Slot → ℕ → Spot
 slot_spot n s at = spot_at n (part_spot s.part) at
@@ -128,8 +131,17 @@ turn how cs n at End = and_then (ending cs n (at + 4)) (λ _. Ok None)
 turn how cs n at (Refused c) = refuse c (bare n at)
 turn how cs n at (Frame m) = and_then (read_slots how cs m n (at + 4) (plan m) blank) (λ vs. Ok (Some (content m vs)))
 
+abbrev pub with_mode : {X : Type 0} → Result X Refusal → (Mode → Result X Refusal) → Option Mode → Result X Refusal
+with_mode other go None = other
+with_mode other go (Some m) = go m
+
 unfoldable pub next_frame : Reading → List Cell → ℕ → ℕ → ℕ → Result (Option Content) Refusal
-next_frame how cs left n at = and_then (field cs (bare n at) at 4) (λ v. turn how cs n at (begun left v))
+next_frame how cs left n at =
+    and_then (field cs (bare n at) at 4) (λ v.
+    cond (v == 15) (and_then (ending cs n (at + 4)) (λ _. Ok None))
+    (with_mode (refuse NoSuchMode (bare n at)) (λ m.
+    cond (left == 0) (refuse TooManyFrames (bare n at))
+    (and_then (read_slots how cs m n (at + 4) (plan m) blank) (λ vs. Ok (Some (content m vs))))) (mode_of v)))
 
 abbrev pub by_next : List Content → (Content → Result (List Content) Refusal) → Option Content → Result (List Content) Refusal
 by_next before go None = Ok before

@@ -81,7 +81,7 @@ fn pick_frame<R: ReadCarrier>(how: Reading, carrier: &R, n: usize) -> Result<Fra
 {
     let seen = scan(how, carrier, n)?;
     match seen.frame {
-        Some(body) => Ok(record_of(how, &body)),
+        Some(body) => record_of(how, &body),
         None => Err(Refusal::because(Cause::NoSuchFrame)),
     }
 }

@@ -1,4 +1,4 @@
-ghost use Rattle.std.specs.Prelude.{◌≡◌, ◌<◌, ◌≤◌};
+ghost use Rattle.std.specs.Prelude.{◌≡◌, ◌<◌, ◌≤◌, MatchResult};
 ghost use Rattle.modes.specs.Plan.{part_width};
 ghost use Rattle.modes.specs.declared.plan.Part.TheVariants.{Low as LowOf};
 ghost use Rattle.frames.specs.Frames.{TrackCopied};
@@ -13,6 +13,7 @@ use frames::frame::Frame;
 use modes::plan::{Part, Slot};
 use pulses::index::{Reading, read_index};
 use pulses::set::NONE;
+use refusals::refusal::Refusal;
 
 /// Sets a track to the set of its index.
 fn put_track(how: Reading, body: &Body, built: &mut Frame, s: usize, t: usize, width: u8)
@@ -52,7 +53,7 @@ fn put_slot(how: Reading, body: &Body, built: &mut Frame, slot: Slot)
 }
 
 /// The record of a frame that was read.
-pub(crate) fn record_of(how: Reading, body: &Body) -> Frame
+pub(crate) fn built_from(how: Reading, body: &Body) -> Frame
     requires { Fine how (content_of body.now) }
     ensures { Stands (content_of body.now) result }
 {
@@ -63,4 +64,12 @@ pub(crate) fn record_of(how: Reading, body: &Body) -> Frame
         k += 1;
     }
     built
+}
+
+/// The record of a frame that was read, as an answer that is never refused.
+pub(crate) fn record_of(how: Reading, body: &Body) -> Result<Frame, Refusal>
+    requires { Fine how (content_of body.now) }
+    ensures { MatchResult result (λ g. Stands (content_of body.now) g) (λ e. ⊥) }
+{
+    Ok(built_from(how, body))
 }

@@ -94,6 +94,7 @@ fn ask_track(
 
 /// Why the value of a slot is refused, after the values before it: a track is
 /// asked with its last part.
+#[tactic(auto, using(crate::proofs::Asked::by_whole))]
 fn question(
     how: Reading,
     mode: Mode,

@@ -7,7 +7,7 @@ ghost use Rattle.messages.specs.Gathered.{Gathered};
 use crate::body::{Body, Scan};
 use crate::error::ReadError;
 use crate::fields::{bare, ending, field};
-use crate::records::record_of;
+use crate::records::built_from;
 use crate::slots::read_slots;
 use carriers::traits::ReadCarrier;
 use frames::frame::Frame;
@@ -118,7 +118,7 @@ pub(crate) fn gather<R: ReadCarrier>(
     let mut n = 0u32;
     let mut at = 0usize;
     while let Some(body) = next_frame(how, carrier, n, at)? {
-        frames.push(record_of(how, &body))?;
+        frames.push(built_from(how, &body))?;
         at = body.end;
         n += 1;
     }

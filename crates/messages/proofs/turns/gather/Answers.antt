@@ -19,8 +19,8 @@ returns-in_err-body g c =
     let p = err_from_is_err_and c.from_residual.result c.from_residual.ensures.1 in
     rw (p.1, p.2) (none_gathered (read_frames c.args.how cells) _ (sym i.2 ∙ turn_refused c.args.how cells (512 - l.n) l.n l.at i.0 _ i.1 c.in_err-body.ensures.is))
 
-pub record_of-requires : goal.record_of-requires
-record_of-requires g c =
+pub built_from-requires : goal.built_from-requires
+built_from-requires g c =
     let l = c.loop-frames in
     let is = ap (λ (o : Option Body). Ok (framed o)) (sym c.in-Some.is) ∙ c.in_ok-body.ensures.is in
     next_fine c.args.how (g.R.ReadCarrier.cells c.args.carrier.now) (512 - l.n) l.n l.at (content_of c.in-Some.body) is
@@ -40,7 +40,7 @@ loop-frames-preserved g c =
         i.0 ++ content_of b ∷ [],
         length_push i.0 (content_of b) ∙ ap (λ k. k + 1) i.1,
         rw on.1 (sym more ∙ i.2),
-        subst (Records (i.0 ++ content_of b ∷ [])) (sym c.in_ok-push.ensures.items) (records_push i.0 (vec_items l.frames) (content_of b) c.record_of.result i.3 c.record_of.ensures),
+        subst (Records (i.0 ++ content_of b ∷ [])) (sym c.in_ok-push.ensures.items) (records_push i.0 (vec_items l.frames) (content_of b) c.built_from.result i.3 c.built_from.ensures),
       ),
     )
 

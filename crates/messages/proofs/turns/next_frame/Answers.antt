@@ -14,23 +14,23 @@ returns-in_err-number g c =
     let p = err_from_is_err_and c.from_residual.result c.from_residual.ensures.1 in
     rw (p.1, p.2) (record { is = turn_stop a.how (g.R.ReadCarrier.cells a.carrier.now) (512 - a.n) a.n a.at c.bare-spot.result c.bare-spot.ensures _ c.in_err-number.ensures.is; on = tt })
 
-pub returns-in_err-ending : goal.returns-in_err-ending
-returns-in_err-ending g c =
+pub returns-in_err-ending-in-End : goal.returns-in_err-ending-in-End
+returns-in_err-ending-in-End g c =
     let a = c.args in
     let cells = g.R.ReadCarrier.cells a.carrier.now in
-    let p = err_from_is_err_and c.from_residual-in_err-ending.result c.from_residual-in_err-ending.ensures.1 in
+    let p = err_from_is_err_and c.from_residual-in_err-ending-in-End.result c.from_residual-in_err-ending-in-End.ensures.1 in
     rw (p.1, p.2) (record {
-      is = turn_end a.how cells a.n a.at (Err _) c.in_err-ending.ensures
+      is = turn_end a.how cells a.n a.at (Err _) c.in_err-ending-in-End.ensures
           ∙ turn_by a.how cells (512 - a.n) a.n a.at c.bare-spot.result c.bare-spot.ensures c.in_ok-number.number End c.in_ok-number.ensures.is c.in-End.ensures;
       on = tt;
     })
 
-pub returns-in_ok-ending : goal.returns-in_ok-ending
-returns-in_ok-ending g c =
+pub returns-in_ok-ending-in-End : goal.returns-in_ok-ending-in-End
+returns-in_ok-ending-in-End g c =
     let a = c.args in
     let cells = g.R.ReadCarrier.cells a.carrier.now in
     record {
-      is = turn_end a.how cells a.n a.at (Ok tt) c.in_ok-ending.ensures
+      is = turn_end a.how cells a.n a.at (Ok tt) c.in_ok-ending-in-End.ensures
           ∙ turn_by a.how cells (512 - a.n) a.n a.at c.bare-spot.result c.bare-spot.ensures c.in_ok-number.number End c.in_ok-number.ensures.is c.in-End.ensures;
       on = tt;
     }
@@ -45,25 +45,25 @@ returns-in-Refused g c =
       on = tt;
     }
 
-pub returns-in_err-body : goal.returns-in_err-body
-returns-in_err-body g c =
+pub returns-in_err-body-in-Frame : goal.returns-in_err-body-in-Frame
+returns-in_err-body-in-Frame g c =
     let a = c.args in
     let cells = g.R.ReadCarrier.cells a.carrier.now in
     let m = c.in-Frame.mode in
-    let p = err_from_is_err_and c.from_residual-in_err-body.result c.from_residual-in_err-body.ensures.1 in
+    let p = err_from_is_err_and c.from_residual-in_err-body-in-Frame.result c.from_residual-in_err-body-in-Frame.ensures.1 in
     rw (p.1, p.2) (record {
-      is = turn_frame a.how cells a.n a.at m (Err _) c.in_err-body.ensures.is
+      is = turn_frame a.how cells a.n a.at m (Err _) c.in_err-body-in-Frame.ensures.is
           ∙ turn_by a.how cells (512 - a.n) a.n a.at c.bare-spot.result c.bare-spot.ensures c.in_ok-number.number (Frame m) c.in_ok-number.ensures.is c.in-Frame.ensures;
       on = tt;
     })
 
-pub returns-in_ok-body : goal.returns-in_ok-body
-returns-in_ok-body g c =
+pub returns-in_ok-body-in-Frame : goal.returns-in_ok-body-in-Frame
+returns-in_ok-body-in-Frame g c =
     let a = c.args in
     let cells = g.R.ReadCarrier.cells a.carrier.now in
     let m = c.in-Frame.mode in
-    let b = c.in_ok-body.body in
-    let said = c.in_ok-body.ensures in
+    let b = c.in_ok-body-in-Frame.body in
+    let said = c.in_ok-body-in-Frame.ensures in
     let more = begun_frame (512 - a.n) c.in_ok-number.number m c.in-Frame.ensures in
     let less : a.n < 512 = omega arith in
     record {

@@ -4,7 +4,7 @@ use Rattle.messages.specs.Contents.{Stands}
 use Rattle.messages.proofs.Steps.{Sound, slot_sound}
 use Rattle.messages.proofs.Standing.{record_of, stands}
 use Rattle.messages.proofs.Building.{slot_wide, parts_start, parts_more, parts_all}
-use Rattle.messages.proofs.records.record_of.Goals as goal
+use Rattle.messages.proofs.records.built_from.Goals as goal
 
 pub loop-slot-init : goal.loop-slot-init
 loop-slot-init c =

@@ -7,7 +7,7 @@ use Rattle.messages.specs.Seen.{content_of}
 use Rattle.messages.specs.Contents.{Stands}
 use Rattle.messages.specs.Building.{PartSame}
 use Rattle.messages.proofs.Planned.{Away}
-use Rattle.messages.proofs.records.record_of.Given as goal
+use Rattle.messages.proofs.records.built_from.Given as goal
 
 abbrev pub invariant-loop-slot : goal.invariant-loop-slot
 invariant-loop-slot l =
