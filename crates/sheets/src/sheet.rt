@@ -16,10 +16,7 @@ use std::alloc::{AllocError, Global};
 fn add_line(text: &mut String, line: Line) -> Result<(), AllocError>
     ensures { OnOk result (string_bytes text.new ≡ string_bytes text.old ++ text_of (line ∷ [])) }
 {
-    match text.writeln(line) {
-        Ok(()) => Ok(()),
-        Err(_) => Err(AllocError),
-    }
+    text.writeln(line)
 }
 
 /// Adds the delays of frame `n`.
