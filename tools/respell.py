@@ -31,6 +31,7 @@ CHOSEN = {
     "sent-by": "sent_by_lem",
     "onTrack": "place_on_track",
     "Was-read": "SlotsWereRead",
+    "withMode": "if_mode",
 }
 
 

@@ -10,7 +10,7 @@ use Rattle.modes.specs.declared.plan.Part.TheVariants.{Value, High, Low}
 use Rattle.modes.specs.Modes.{mode_of}
 use Rattle.modes.specs.Plan.{plan}
 use Rattle.messages.specs.declared.turns.Next.TheVariants.{End, Frame, Refused}
-use Rattle.messages.specs.Messages.{Content, content, and_then, refuse, bare, field, questioned, completed, if_whole, track_asked, ending, read_slots, blank, when_mode, with_mode, begun, turn, next_frame}
+use Rattle.messages.specs.Messages.{Content, content, and_then, refuse, bare, field, questioned, completed, if_whole, track_asked, ending, read_slots, blank, when_mode, if_mode, begun, turn, next_frame}
 
 pub by_whole : (how : Reading) (m : Mode) (vs : List ℕ) (p : Part) (w v : ℕ) → questioned how m vs p w v ≡ if_whole (completed p) (track_asked how m vs w v)
 unfolding questioned track_asked
@@ -23,7 +23,7 @@ module _ (how : Reading) (cs : List Cell) (n at : ℕ) where
   framed m = and_then (read_slots how cs m n (at + 4) (plan m) blank) (λ vs. Ok (Some (content m vs)))
 
   by_tests : (last none : Bool) (o : Option Mode)
-      → cond last (and_then (ending cs n (at + 4)) (λ _. Ok None)) (with_mode (refuse NoSuchMode (bare n at)) (λ m. cond none (refuse TooManyFrames (bare n at)) (framed m)) o)
+      → cond last (and_then (ending cs n (at + 4)) (λ _. Ok None)) (if_mode (refuse NoSuchMode (bare n at)) (λ m. cond none (refuse TooManyFrames (bare n at)) (framed m)) o)
       ≡ turn how cs n at (cond last End (when_mode (Refused NoSuchMode) (λ m. cond none (Refused TooManyFrames) (Frame m)) o))
   unfolding turn
   by_tests true none o = refl

@@ -131,15 +131,15 @@ turn how cs n at End = and_then (ending cs n (at + 4)) (λ _. Ok None)
 turn how cs n at (Refused c) = refuse c (bare n at)
 turn how cs n at (Frame m) = and_then (read_slots how cs m n (at + 4) (plan m) blank) (λ vs. Ok (Some (content m vs)))
 
-abbrev pub with_mode : {X : Type 0} → Result X Refusal → (Mode → Result X Refusal) → Option Mode → Result X Refusal
-with_mode other go None = other
-with_mode other go (Some m) = go m
+abbrev pub if_mode : {X : Type 0} → Result X Refusal → (Mode → Result X Refusal) → Option Mode → Result X Refusal
+if_mode other go None = other
+if_mode other go (Some m) = go m
 
 unfoldable pub next_frame : Reading → List Cell → ℕ → ℕ → ℕ → Result (Option Content) Refusal
 next_frame how cs left n at =
     and_then (field cs (bare n at) at 4) (λ v.
     cond (v == 15) (and_then (ending cs n (at + 4)) (λ _. Ok None))
-    (with_mode (refuse NoSuchMode (bare n at)) (λ m.
+    (if_mode (refuse NoSuchMode (bare n at)) (λ m.
     cond (left == 0) (refuse TooManyFrames (bare n at))
     (and_then (read_slots how cs m n (at + 4) (plan m) blank) (λ vs. Ok (Some (content m vs))))) (mode_of v)))
 
