@@ -1,5 +1,5 @@
 -- The cells that are left to put after some slots of a plan.
-use Rattle.std.proofs.Common.{◌≡◌, ℕ, zero, suc, ◌+◌, ◌/◌, ◌%◌, ◌^◌, ◌≤◌, cond, eqb, List, [], ◌∷◌, ◌++◌, map, length, drop, Some, None, refl, sym, ap, ◌∙◌, ap₂, append_assoc, append-nil, length-append, arith}
+use Rattle.std.proofs.Common.{◌≡◌, ℕ, zero, suc, ◌+◌, ◌/◌, ◌%◌, ◌^◌, ◌≤◌, cond, eqb, List, ◌∷◌, ◌++◌, map, length, drop, Some, None, refl, sym, ap, ◌∙◌, ap₂, append_assoc, append-nil, length-append, arith}
 use Rattle.std.proofs.lemmas.List.{map-append}
 use Rattle.carriers.specs.declared.bit.Bit.{Bit}
 use Rattle.carriers.specs.declared.bit.Bit.TheVariants.{Zero, One}

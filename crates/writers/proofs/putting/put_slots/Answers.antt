@@ -1,6 +1,6 @@
-use Rattle.std.proofs.Common.{◌≡◌, ◌+◌, ◌<◌, ◌≤◌, length, ◌++◌, Some, None, sym, refl, ap, ◌∙◌, subst, arith}
+use Rattle.std.proofs.Common.{◌≡◌, ◌++◌, Some, None, sym, refl, ap, ◌∙◌, arith}
 use Rattle.modes.specs.declared.mode.Mode.{Mode}
-use Rattle.modes.specs.Plan.{plan, part_width, nth, total}
+use Rattle.modes.specs.Plan.{plan, nth}
 use Rattle.messages.proofs.Steps.{Sound, slot_sound}
 use Rattle.messages.proofs.Building.{slot_wide}
 use Rattle.writers.proofs.Along.{cells_start, cells_more, cells_end, room_here, room_more}
