@@ -1,7 +1,7 @@
 #!/bin/sh
-# Builds the C host against the static library of `pulses` and runs it, and makes the
-# cases of messages again, which have to be the stored ones. Run from the repository's
-# root. One line if all is well, else the whole log and status 1.
+# Builds the C host against the static library of the pulses (the crate `pulses_c`) and
+# runs it, and makes the cases of messages again, which have to be the stored ones. Run
+# from the repository's root. One line if all is well, else the whole log and status 1.
 set -euf
 
 log=target/host.log
@@ -24,7 +24,7 @@ each_line() {
     done
 }
 
-rt staticlib pulses >"$log" 2>&1 || failed "the static library"
+sh .ci/staticlib.sh >"$log" 2>&1 || failed "the static library"
 make -s -C host check >>"$log" 2>&1 || failed "make check"
 each_line <crates/indices/stdin >target/host/sample
 cmp target/host/sample crates/indices/stdout >>"$log" 2>&1 || failed "the sample of indices"

@@ -128,7 +128,7 @@ sent f = record { long = refl; good = good f; empty = empty f }
 bit_cell : (n : ℕ) → bit_of (n % 2) ≡ bit_of n
 bit_cell n = ap (λ k. cond (eqb k 0) Zero One) (let z : n % 2 % 2 ≡ n % 2 = omega arith in z)
 
-bits_cells : (w v : ℕ) → as_cells (numeral_bits_of w v) ≡ bits_of w v
+pub bits_cells : (w v : ℕ) → as_cells (numeral_bits_of w v) ≡ bits_of w v
 bits_cells zero v = refl
 bits_cells (suc w) v = ap₂ (λ (b : Bit) (l : List Cell). bit b ∷ l) (bit_cell (v / 2 ^ w)) (bits_cells w v)
 

@@ -1,8 +1,6 @@
 -- The cells that are left to put after some slots of a plan.
-use Rattle.std.proofs.Common.{◌≡◌, ℕ, zero, suc, ◌+◌, ◌/◌, ◌%◌, ◌^◌, ◌≤◌, cond, eqb, List, ◌∷◌, ◌++◌, map, length, drop, Some, None, refl, sym, ap, ◌∙◌, ap₂, append_assoc, append-nil, length-append, arith}
+use Rattle.std.proofs.Common.{◌≡◌, ℕ, ◌+◌, ◌≤◌, List, ◌∷◌, ◌++◌, map, length, drop, Some, None, refl, sym, ap, ◌∙◌, append_assoc, append-nil, length-append, arith}
 use Rattle.std.proofs.lemmas.List.{map-append}
-use Rattle.carriers.specs.declared.bit.Bit.{Bit}
-use Rattle.carriers.specs.declared.bit.Bit.TheVariants.{Zero, One}
 use Rattle.carriers.specs.Bits.{bit_of}
 use Rattle.carriers.specs.Cells.{Cell, bit}
 use Rattle.carriers.specs.Fields.{bits_of}
@@ -14,14 +12,7 @@ use Rattle.frames.specs.Bits.{part_value, spell, frame_bits}
 use Rattle.frames.specs.Bits.{bits_of as numeral_bits_of}
 use Rattle.messages.specs.Written.{as_cells}
 use Rattle.messages.proofs.Steps.{at_some, at_none}
-
--- the bits of a number as cells
-bit_cell : (n : ℕ) → bit_of (n % 2) ≡ bit_of n
-bit_cell n = ap (λ k. cond (eqb k 0) Zero One) (let z : n % 2 % 2 ≡ n % 2 = omega arith in z)
-
-bits_cells : (w v : ℕ) → as_cells (numeral_bits_of w v) ≡ bits_of w v
-bits_cells zero v = refl
-bits_cells (suc w) v = ap₂ (λ (b : Bit) (l : List Cell). bit b ∷ l) (bit_cell (v / 2 ^ w)) (bits_cells w v)
+use Rattle.messages.proofs.Housed.{bits_cells}
 
 -- the cells of a frame in some slots
 unfoldable pub slot_cells : Frame → List Slot → List Cell
