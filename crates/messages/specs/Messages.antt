@@ -122,7 +122,7 @@ abbrev pub when_mode : Next → (Mode → Next) → Option Mode → Next
 when_mode other go None = other
 when_mode other go (Some m) = go m
 
--- 1111 ends the message; a number of no mode is refused before a frame too many
+-- the questions of `next_frame` below, one by one: a turn goes by what its mode cells begin
 abbrev pub begun : ℕ → ℕ → Next
 begun left v = cond (v == 15) End (when_mode (Refused NoSuchMode) (λ m. cond (left == 0) (Refused TooManyFrames) (Frame m)) (mode_of v))
 
@@ -135,6 +135,7 @@ abbrev pub if_mode : {X : Type 0} → Result X Refusal → (Mode → Result X Re
 if_mode other go None = other
 if_mode other go (Some m) = go m
 
+-- 1111 ends the message; a number of no mode is refused before a frame too many
 unfoldable pub next_frame : Reading → List Cell → ℕ → ℕ → ℕ → Result (Option Content) Refusal
 next_frame how cs left n at =
     and_then (field cs (bare n at) at 4) (λ v.
