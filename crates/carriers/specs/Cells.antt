@@ -1,7 +1,7 @@
 -- What a carrier holds. Assumes Bits.
---   Cell         what stands at one place: a zero or a one (bit b), or bad
---   max_cells     the most cells that a carrier can have
---   table f n    the cells that f gives for the places below n, in their order
+--   Cell        what stands at one place: a zero or a one (bit b), or bad
+--   max_cells   the most cells that a carrier can have
+--   table f n   the cells that f gives for the places below n, in their order
 use Rattle.std.specs.Prelude.{◌≡◌, ℕ, List, map, length}
 use Rattle.std.specs.List.{range_with_len}
 use Rattle.std.proofs.lemmas.List.FromFn.{length-map-range_with_len}

@@ -1,10 +1,10 @@
 -- The cells of a carrier as octets in a buffer. Assumes Reading, Octets.
---   all_bits cs                   accepted where every cell is a bit; else refused as the first that is not
---   octet_count cs                the octets that the cells take, the last perhaps in part
---   padded cs                    the cells, and zeros after them up to a whole octet
---   CopyRefused cs n e           with a buffer of n octets, e is what copying is refused with: a cell that is no bit comes before a buffer that is too short
---   Copied cs before r after     copying cs into a buffer that held before answers r and leaves after in it
---   CheckAnswers                every cell is a bit exactly where the cells are those of a list of bits; the first that is not decides
+--   all_bits cs                accepted where every cell is a bit; else refused as the first that is not
+--   octet_count cs             the octets that the cells take, the last perhaps in part
+--   padded cs                  the cells, and zeros after them up to a whole octet
+--   CopyRefused cs n e         with a buffer of n octets, e is what copying is refused with: a cell that is no bit comes before a buffer that is too short
+--   Copied cs before r after   copying cs into a buffer that held before answers r and leaves after in it
+--   CheckAnswers               every cell is a bit exactly where the cells are those of a list of bits; the first that is not decides
 use Rattle.std.specs.Prelude.{◌≡◌, ℕ, ◌+◌, ◌-◌, ◌*◌, ◌/◌, ◌<◌, ◌≤◌, ◌⊎◌, List, [], ◌∷◌, ◌++◌, map, length, drop, replicate, Ok, Err, Result}
 use Rattle.refusals.specs.declared.cause.Cause.TheVariants.{BufferTooShort}
 use Rattle.refusals.specs.declared.refusal.Refusal.{Refusal}

@@ -1,7 +1,7 @@
 -- A row of cells as a number, most significant first. Assumes Reading.
 --   and_then r f          what f makes of the answer r; a refusal stays
 --   read_bits cs at w a   the number that the w cells from a place on spell after the number a, or the first refusal among them
---   low32 r              an answered number without its bits of weight 2^32 and above
+--   low32 r               an answered number without its bits of weight 2^32 and above
 use Rattle.std.specs.Prelude.{ℕ, zero, suc, ◌+◌, ◌*◌, ◌%◌, List, Ok, Err, Result}
 use Rattle.refusals.specs.declared.refusal.Refusal.{Refusal}
 use Rattle.carriers.specs.declared.bit.Bit.{Bit}

@@ -1,5 +1,5 @@
 -- A number as a row of cells, most significant first, and what putting one answers and leaves. Assumes Cells; looks at no cell that is already there.
---   bits_of w v                      the low w bits of the number v; above its own bits a number has zeros
+--   bits_of w v                       the low w bits of the number v; above its own bits a number has zeros
 --   PutBits before room v w r after   of a carrier with so much room, putting the low w bits of v answers r and leads from the cells before to those after
 use Rattle.std.specs.Prelude.{◌≡◌, ℕ, zero, suc, ◌+◌, ◌/◌, ◌^◌, ◌<◌, ◌≤◌, List, [], ◌∷◌, ◌++◌, length, Ok, Err, Result}
 use Rattle.refusals.specs.declared.cause.Cause.TheVariants.{CarrierFull}

@@ -1,6 +1,6 @@
 -- Eight cells to an octet, most significant first, none bad. Assumes Cells.
---   octet_at os i                  the cell at place i of the octets os: the bit of weight 2^(7 - i % 8) of octet i / 8
---   octet_room os                  the cells that the octets os count for
+--   octet_at os i                   the cell at place i of the octets os: the bit of weight 2^(7 - i % 8) of octet i / 8
+--   octet_room os                   the cells that the octets os count for
 --   octet_reader_cells r            the cells of an octet reader
 --   octet_writer_cells w            the cells of an octet writer
 --   octet_writer_room w             its capacity

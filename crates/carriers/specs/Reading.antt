@@ -1,5 +1,5 @@
 -- What reading one cell answers. Assumes Cells.
---   answer x      what a cell x that is there answers
+--   answer x       what a cell x that is there answers
 --   cell_at cs i   what reading place i of the cells cs answers
 use Rattle.std.specs.Prelude.{ℕ, zero, suc, List, [], ◌∷◌, Ok, Err, Result}
 use Rattle.refusals.specs.declared.cause.Cause.TheVariants.{CellMissing, BadCell}

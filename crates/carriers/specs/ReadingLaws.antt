@@ -1,9 +1,9 @@
 -- What reading cells and fields comes to, in terms of the cells alone. Assumes Reading, Fields, FieldReading.
---   CellAnswers      a place past the end is missing; any other answers as its cell does
---   FieldAnswers     a field reads as v exactly where v fits the width and the cells from the place on are the bits of v
---   FieldRefusals    a field is refused exactly with what its first cell that is missing or bad is refused with
+--   CellAnswers       a place past the end is missing; any other answers as its cell does
+--   FieldAnswers      a field reads as v exactly where v fits the width and the cells from the place on are the bits of v
+--   FieldRefusals     a field is refused exactly with what its first cell that is missing or bad is refused with
 --   Spelt cs at w v   v fits the width w, and the w cells from the place on are its bits
---   Faulty cs at k e  of the cells from a place on, the one at k is refused with e, and each before it is a bit
+--   Faulty cs at k e   of the cells from a place on, the one at k is refused with e, and each before it is a bit
 use Rattle.std.specs.Prelude.{◌≡◌, ℕ, ◌+◌, ◌^◌, ◌<◌, ◌≤◌, List, ◌++◌, length, drop, Ok, Err, slice_index_or}
 use Rattle.refusals.specs.declared.cause.Cause.TheVariants.{CellMissing}
 use Rattle.refusals.specs.declared.refusal.Refusal.{Refusal}

@@ -3,10 +3,10 @@
 --   word_of b                      the word that stands for the bit b
 --   word_at ws i                   the cell at place i of the words ws
 --   word_room ws                   the cells that the words ws count for
---   word_reader_cells r             the cells of a word reader
---   word_writer_cells w             the cells of a word writer
---   word_writer_room w              its capacity
---   WordsPut before at b r after    what putting the bit b at a place, answered r, leaves of the words: that word alone is changed
+--   word_reader_cells r            the cells of a word reader
+--   word_writer_cells w            the cells of a word writer
+--   word_writer_room w             its capacity
+--   WordsPut before at b r after   what putting the bit b at a place, answered r, leaves of the words: that word alone is changed
 use Rattle.std.specs.Prelude.{◌≡◌, ℕ, ◌≤◌, min, cond, List, length, Ok, Err, Result, ◌==◌, slice_index, slice_set}
 use Rattle.std.proofs.Common.{arith}
 use Rattle.refusals.specs.declared.refusal.Refusal.{Refusal}

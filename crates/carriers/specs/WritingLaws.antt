@@ -1,10 +1,10 @@
 -- What a run of accepted puts comes to, on any carrier of any capacity. Assumes Writing, Fields, FieldReading.
 --   BitsPut room before bs after     the bits bs, put one after the other and each accepted, lead from the cells before to those after
---   SameBitsSameCells             two carriers of whatever kind that held the same cells and were put the same bits hold the same cells again: those from before and then the bits
+--   SameBitsSameCells                two carriers of whatever kind that held the same cells and were put the same bits hold the same cells again: those from before and then the bits
 --   Field                            a number and the width that it is put with
 --   FieldsPut room before fs after   the fields fs, put one after the other and each accepted, lead from the cells before to those after
 --   FieldsRead cs at fs              from a place on, each field of fs reads as it was put: the number, cut to its width
---   FieldsReadBack                 fields that were put one after the other read back one after the other, from where the first was put
+--   FieldsReadBack                   fields that were put one after the other read back one after the other, from where the first was put
 use Rattle.std.specs.Prelude.{◌≡◌, ℕ, ◌+◌, ◌%◌, ◌^◌, List, [], ◌∷◌, ◌++◌, map, length, Ok}
 use Rattle.carriers.specs.declared.bit.Bit.{Bit}
 use Rattle.carriers.specs.Cells.{Cell, bit}

@@ -1,5 +1,5 @@
 -- A record of nothing is lawful in each mode.
-use Rattle.std.proofs.Common.{◌≡◌, ℕ, zero, suc, ◌+◌, ◌*◌, ◌<◌, ◌⊎◌, List, [], length, get_or, take, replicate, refl, ap, ◌∙◌, ⊎_elim, arith, pow_pos}
+use Rattle.std.proofs.Common.{◌≡◌, ℕ, zero, suc, ◌+◌, ◌*◌, ◌<◌, List, [], length, get_or, take, replicate, refl, ap, ◌∙◌, ⊎_elim, arith, pow_pos}
 use Rattle.std.proofs.lemmas.List.{take-replicate}
 use Rattle.std.proofs.lemmas.Bool.{cases_lt}
 use Rattle.pulses.specs.declared.pulse.Pulse.{Pulse}

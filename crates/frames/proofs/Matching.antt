@@ -1,9 +1,9 @@
 -- What the comparison of signs, pulses, values and rows of pulses decides.
-use Rattle.std.proofs.Common.{◌≡◌, ℕ, Bool, List, Decides, ap, refl, nat_eq}
+use Rattle.std.proofs.Common.{◌≡◌, ℕ, List, Decides, ap, refl, nat_eq}
 use Rattle.std.proofs.lemmas.Bool.Decides.{Decides-eqb, Decides-and, Decides-like}
 use Rattle.std.proofs.lemmas.Slice.Eq.{slice_eq-Decides}
 use Rattle.std.specs.Cmp.Lexicographic.{pointwise}
-use denote.Enum.Bare.{sameb, same_true}
+use denote.Enum.Bare.{sameb}
 use Rattle.pulses.specs.declared.pulse.Pulse.{Pulse}
 use Rattle.pulses.specs.declared.pulse.Sign.{Sign}
 use Rattle.pulses.specs.declared.pulse.Sign.TheVariants.{Plus, Minus}

@@ -1,5 +1,5 @@
 -- The rows of a lawful record, and what one more row leaves of it.
-use Rattle.std.proofs.Common.{◌≡◌, ℕ, ◌+◌, ◌*◌, ◌%◌, ◌^◌, ◌<◌, ◌≤◌, ◌⊎◌, List, [], length, get_or, take, set, sym, ap, subst, ⊎_elim, arith, get_or-set_other, get_or-set_same}
+use Rattle.std.proofs.Common.{◌≡◌, ℕ, ◌+◌, ◌*◌, ◌%◌, ◌^◌, ◌<◌, ◌≤◌, List, [], length, get_or, take, set, sym, ap, subst, ⊎_elim, arith, get_or-set_other, get_or-set_same}
 use Rattle.std.proofs.lemmas.Bool.{cases_eq, cases_lt}
 use Rattle.pulses.specs.declared.pulse.Pulse.{Pulse}
 use Rattle.pulses.specs.Sets.{none, at, apart}
@@ -7,7 +7,7 @@ use Rattle.modes.specs.declared.mode.Mode.{Mode}
 use Rattle.frames.specs.declared.frame.Frame.{Frame}
 use Rattle.modes.specs.Modes.{row, pulses_in}
 use Rattle.frames.specs.Lawful.{OnTrack, Rising, Padded, Long}
-use Rattle.frames.specs.Frames.{count_of, row_of, pulses, track_width}
+use Rattle.frames.specs.Frames.{count_of, row_of, track_width}
 use Rattle.modes.proofs.Modes.{pulses_in_here, pulses_in_has, pulses_in_few}
 use Rattle.frames.proofs.Taken.{LawfulRow, Front, row_front}
 

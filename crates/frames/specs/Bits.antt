@@ -1,19 +1,19 @@
 -- The bits of a frame along its plan, written with house indices and read again. Assumes Plan, Frames, Sound and the indices of the pulses.
---   bits_of w v          the low w bits of v, most significant first
---   numeral a bs        the number that the bits bs spell after a
---   index f s t         the house index of a track's pulses
---   part_value f p       what the record f has for a part of the plan
---   slot_values f        what it has for each slot of its plan
---   spell ss vs         the values vs in the slots ss, as bits
---   frame_bits f         the bits of the frame
---   read_slots ss bs     the values of the slots ss in the bits bs
---   place_of p           what a part stands for in the order of the parts: its place; 56 is no place
---   held_for ss vs p     what stands for the part p among the values vs of the slots ss; 0 where no slot holds it
---   read_part m bs p     what stands for the part p in the bits bs of a frame of mode m
---   read_field m bs x    the field x in the bits bs of a frame of mode m
---   read_track m bs s t  the pulses of a track there
---   Reads bs f          the record f is what is read from the bits bs
---   Agree f g           the records agree in every field that is no pulse field, and in excitation
+--   bits_of w v           the low w bits of v, most significant first
+--   numeral a bs          the number that the bits bs spell after a
+--   index f s t           the house index of a track's pulses
+--   part_value f p        what the record f has for a part of the plan
+--   slot_values f         what it has for each slot of its plan
+--   spell ss vs           the values vs in the slots ss, as bits
+--   frame_bits f          the bits of the frame
+--   read_slots ss bs      the values of the slots ss in the bits bs
+--   place_of p            what a part stands for in the order of the parts: its place; 56 is no place
+--   held_for ss vs p      what stands for the part p among the values vs of the slots ss; 0 where no slot holds it
+--   read_part m bs p      what stands for the part p in the bits bs of a frame of mode m
+--   read_field m bs x     the field x in the bits bs of a frame of mode m
+--   read_track m bs s t   the pulses of a track there
+--   Reads bs f            the record f is what is read from the bits bs
+--   Agree f g             the records agree in every field that is no pulse field, and in excitation
 use Rattle.std.specs.Prelude.{◌≡◌, ℕ, zero, suc, ◌+◌, ◌*◌, ◌/◌, ◌%◌, ◌^◌, ◌<◌, cond, ◌↔◌, List, [], ◌∷◌, ◌++◌, map, length, take, drop, ◌==◌, nat_lt}
 use Rattle.std.specs.List.{AllByRecursion}
 use Rattle.pulses.specs.declared.pulse.Pulse.{Pulse}

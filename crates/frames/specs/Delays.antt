@@ -1,12 +1,12 @@
 -- The delays of a frame. Assumes Modes, Fields, Frames. A sample is 78.125 microseconds.
---   long_delay w d      the quarter samples of a delay field of 8 or 9 bits
---   held low high n    n, held within low to high
---   short_base q        the whole sample from which the short fields after the long delay q count
---   step w             the quarter samples of a step of a short field
---   last_long m s       the last subframe up to s whose delay has 8 or 9 bits
---   long_before m s     the same for s below 4, by mode
---   delay f s          the delay of subframe s, in quarter samples
---   microseconds q     q quarter samples in microseconds, cut off
+--   long_delay w d    the quarter samples of a delay field of 8 or 9 bits
+--   held low high n   n, held within low to high
+--   short_base q      the whole sample from which the short fields after the long delay q count
+--   step w            the quarter samples of a step of a short field
+--   last_long m s     the last subframe up to s whose delay has 8 or 9 bits
+--   long_before m s   the same for s below 4, by mode
+--   delay f s         the delay of subframe s, in quarter samples
+--   microseconds q    q quarter samples in microseconds, cut off
 use Rattle.std.specs.Prelude.{ℕ, zero, suc, ◌+◌, ◌-◌, ◌*◌, ◌/◌, ◌%◌, cond, ◌==◌, nat_le, nat_lt}
 use Rattle.modes.specs.declared.mode.Mode.{Mode}
 use Rattle.modes.specs.declared.mode.Mode.TheVariants.{Rate6k60, Rate8k85, Rate12k65, Rate14k25, Rate15k85, Rate18k25, Rate19k85, Rate23k05, Rate23k85}

@@ -1,23 +1,23 @@
 -- What a record holds, and what its calls do to it. Assumes Modes, Fields, Lawful, and the refusals and pulses of the crates below.
---   value f x            the value of the field x
+--   value f x             the value of the field x
 --   field_bits f x        the bits of the field x; 0: the mode has no such field
 --   count_of f s t        the pulses of track t of subframe s; 0: the mode has no such track
 --   track_width f         the width of the mode's tracks
 --   row_of f s t          the row in which a track is kept
---   pulses f s t         the pulses of the track, from the lowest place up
+--   pulses f s t          the pulses of the track, from the lowest place up
 --   field_refusal c x     the refusal for c that tells the subframe of the field x, if it has one
 --   track_refusal c s t   the refusal for c that tells the subframe and the track
---   Blank f              every field is 0, and every pulse plus on place 0
---   FieldSet ..          the field x is now v, and the rest is as before
---   FieldRefused ..      nothing changed, and why
---   TrackSet ..          the track has now the given pulses, in order, and the rest is as before
---   Unlawful n M ps c    the cause c for which n pulses on a track of width M cannot be ps
---   WhyNot f s t ps c    the cause c for which a track cannot be set to ps
---   TrackRefused ..      nothing changed, and why
---   Handed ..            the pulses stand in the front of the buffer, and the rest of it is as before
---   NotHanded ..         the buffer is as before, and why
---   FieldCopied ..       a field is now as in another record
---   TrackCopied ..       a track is now as in another record
+--   Blank f               every field is 0, and every pulse plus on place 0
+--   FieldSet ..           the field x is now v, and the rest is as before
+--   FieldRefused ..       nothing changed, and why
+--   TrackSet ..           the track has now the given pulses, in order, and the rest is as before
+--   Unlawful n M ps c     the cause c for which n pulses on a track of width M cannot be ps
+--   WhyNot f s t ps c     the cause c for which a track cannot be set to ps
+--   TrackRefused ..       nothing changed, and why
+--   Handed ..             the pulses stand in the front of the buffer, and the rest of it is as before
+--   NotHanded ..          the buffer is as before, and why
+--   FieldCopied ..        a field is now as in another record
+--   TrackCopied ..        a track is now as in another record
 use Rattle.std.specs.Prelude.{◌≡◌, ℕ, ◌+◌, ◌*◌, ◌^◌, ◌<◌, ◌≤◌, List, [], ◌++◌, length, take, drop, replicate, ◌≢◌, slice_index, slice_index_or}
 use Rattle.refusals.specs.declared.cause.Cause.{Cause}
 use Rattle.refusals.specs.declared.cause.Cause.TheVariants.{NoSuchField, ValueTooLarge, WrongNumber, OffTrack, BothSigns, BufferTooShort}

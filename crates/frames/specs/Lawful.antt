@@ -1,10 +1,10 @@
 -- What makes a record lawful for its mode. Assumes Modes, Fields and the pulses of a track.
---   Fit m values       each field fits its bits; where the mode has no such field there is 0
+--   Fit m values        each field fits its bits; where the mode has no such field there is 0
 --   pulse_at rows i k   pulse k of row i; track t of subframe s is row 4 * s + t
---   OnTrack m rows     every place is on the track
---   Rising m rows      a track's pulses go from the lowest place up, and those of different signs are at least a place apart
---   Padded m rows      past a track's pulses stand plus pulses on place 0
---   Long rows          every row has room for six
+--   OnTrack m rows      every place is on the track
+--   Rising m rows       a track's pulses go from the lowest place up, and those of different signs are at least a place apart
+--   Padded m rows       past a track's pulses stand plus pulses on place 0
+--   Long rows           every row has room for six
 use Rattle.std.specs.Prelude.{◌≡◌, ℕ, ◌+◌, ◌%◌, ◌^◌, ◌<◌, ◌≤◌, List, [], length, slice_index, slice_index_or}
 use Rattle.pulses.specs.declared.pulse.Pulse.{Pulse}
 use Rattle.pulses.specs.Sets.{none, at, apart}

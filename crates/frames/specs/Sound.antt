@@ -1,9 +1,9 @@
 -- The excitation of a frame. Assumes Modes, Frames and the pulses of a track.
---   signed s           what a pulse of sign s adds to its sample
+--   signed s            what a pulse of sign s adds to its sample
 --   amplitude_at ps x   the plus pulses on place x less its minus pulses
 --   sample_of f s j     the amplitude of sample j of subframe s: place p of track t is sample p * tracks + t
---   sample f k         the amplitude of sample k of the frame's 256
---   Sounded f ..       the front of the buffer has the frame's samples, and the rest of it is as before
+--   sample f k          the amplitude of sample k of the frame's 256
+--   Sounded f ..        the front of the buffer has the frame's samples, and the rest of it is as before
 use Rattle.std.specs.Prelude.{◌≡◌, ℕ, ◌/◌, ◌%◌, ◌<◌, ◌≤◌, List, length, drop, ℤ, pos, negsuc, ◌-ℤ◌, slice_index_or}
 use Rattle.pulses.specs.declared.pulse.Pulse.{Pulse}
 use Rattle.pulses.specs.declared.pulse.Sign.{Sign}

@@ -1,5 +1,5 @@
 -- What stands as a message is accepted.
-use Rattle.std.proofs.Common.{◌≡◌, ℕ, zero, suc, ◌+◌, ◌-◌, ◌^◌, ◌<◌, ◌≤◌, ◌⊎◌, List, [], ◌∷◌, ◌++◌, length, get_or, drop, set, Some, None, Ok, sym, refl, ap, ◌∙◌, subst, ap₂, ⊎_elim, add-zero, arith, length-append, length-drop, length-set, get_or-set_other, get_or-set_same, pow_pos}
+use Rattle.std.proofs.Common.{◌≡◌, ℕ, zero, suc, ◌+◌, ◌-◌, ◌^◌, ◌<◌, ◌≤◌, List, [], ◌∷◌, ◌++◌, length, get_or, drop, set, Some, None, Ok, sym, refl, ap, ◌∙◌, subst, ap₂, ⊎_elim, add-zero, arith, length-append, length-drop, length-set, get_or-set_other, get_or-set_same, pow_pos}
 use Rattle.std.specs.List.{AllByRecursion}
 use Rattle.std.proofs.lemmas.List.{ext_get_or}
 use Rattle.std.proofs.lemmas.Bool.{cases_eq, ne_eqb}
@@ -14,7 +14,8 @@ use Rattle.modes.specs.Modes.{number_of}
 use Rattle.modes.specs.Plan.{plan, total}
 use Rattle.frames.specs.Bits.{place_of}
 use Rattle.messages.specs.declared.turns.Next.TheVariants.{End, Frame}
-use Rattle.messages.specs.Messages.{Content, bare, slot_spot, spotted, field, read_slot, read_slots, blank, filler, begun, next_frame, read_from}
+use Rattle.messages.specs.Messages.{Content, bare, slot_spot, spotted, field, read_slot, read_slots, blank, filler, next_frame, read_from}
+use Rattle.messages.specs.Asked.{begun}
 use Rattle.messages.proofs.Steps.{slot_by, ending_fine}
 use Rattle.messages.proofs.Planned.{Away, Rises, rises_head, rises_away, plan_rises}
 use Rattle.messages.proofs.Placing.{spelt, Good, asked_same, append_assoc}

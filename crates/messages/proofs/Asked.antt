@@ -10,7 +10,8 @@ use Rattle.modes.specs.declared.plan.Part.TheVariants.{Value, High, Low}
 use Rattle.modes.specs.Modes.{mode_of}
 use Rattle.modes.specs.Plan.{plan}
 use Rattle.messages.specs.declared.turns.Next.TheVariants.{End, Frame, Refused}
-use Rattle.messages.specs.Messages.{Content, content, and_then, refuse, bare, field, questioned, completed, if_whole, track_asked, ending, read_slots, blank, when_mode, if_mode, begun, turn, next_frame}
+use Rattle.messages.specs.Messages.{Content, content, and_then, refuse, bare, field, questioned, ending, read_slots, blank, if_mode, next_frame}
+use Rattle.messages.specs.Asked.{completed, if_whole, track_asked, when_mode, begun, turn}
 
 pub by_whole : (how : Reading) (m : Mode) (vs : List ℕ) (p : Part) (w v : ℕ) → questioned how m vs p w v ≡ if_whole (completed p) (track_asked how m vs w v)
 unfolding questioned track_asked

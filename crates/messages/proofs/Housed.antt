@@ -1,5 +1,5 @@
 -- A record's frame stands in a message with house indices, and is read again; and what is read strictly is such a frame.
-use Rattle.std.proofs.Common.{◌≡◌, ℕ, zero, suc, ◌+◌, ◌-◌, ◌/◌, ◌%◌, ◌^◌, ◌<◌, cond, eqb, ◌⊎◌, List, [], ◌∷◌, ◌++◌, map, get_or, Ok, sym, refl, ap, ◌∙◌, subst, ap₂, ⊎_elim, mul_comm, arith}
+use Rattle.std.proofs.Common.{◌≡◌, ℕ, zero, suc, ◌+◌, ◌-◌, ◌/◌, ◌%◌, ◌^◌, ◌<◌, cond, eqb, List, [], ◌∷◌, ◌++◌, map, get_or, Ok, sym, refl, ap, ◌∙◌, subst, ap₂, ⊎_elim, mul_comm, arith}
 use native.Mathlib.Nat.{div-add-mod}
 use Rattle.std.specs.List.{AllByRecursion, range_with_len}
 use Rattle.std.proofs.lemmas.List.FromFn.{get_or-range_with_len}
@@ -36,7 +36,7 @@ use Rattle.frames.proofs.Taken.{sort_again}
 use Rattle.frames.proofs.Written.{part_fits}
 use Rattle.frames.proofs.Houses.{house_written}
 use Rattle.frames.proofs.Blanks.{replicate_at}
-use Rattle.messages.specs.Messages.{Content, content, settled, joined, track_asked, questioned, blank}
+use Rattle.messages.specs.Messages.{Content, content, settled, joined, questioned, blank}
 use Rattle.messages.specs.Contents.{held, index_in, Stands, Fine}
 use Rattle.messages.specs.Written.{as_cells, frame_cells, body}
 use Rattle.messages.proofs.Planned.{Away, plan_each}

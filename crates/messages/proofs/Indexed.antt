@@ -1,5 +1,5 @@
 -- Reading by the index relation, strictly or openly: the cells of frames with any accepted indices of their sets.
-use Rattle.std.proofs.Common.{◌≡◌, ℕ, ◌+◌, ◌-◌, ◌^◌, ◌<◌, ◌⊎◌, List, [], ◌∷◌, ◌++◌, map, get_or, Ok, sym, refl, ap, ◌∙◌, subst, ap₂, ⊎_elim, arith}
+use Rattle.std.proofs.Common.{◌≡◌, ℕ, ◌-◌, ◌^◌, ◌<◌, List, [], ◌∷◌, ◌++◌, map, get_or, Ok, sym, refl, ap, ◌∙◌, subst, ap₂, ⊎_elim, arith}
 use Rattle.std.proofs.lemmas.List.{get_or-map, get_or_append_left, get_or-append_right}
 use Rattle.std.proofs.lemmas.Bool.{cases_lt}
 use Rattle.carriers.specs.Fields.{bits_of}
@@ -22,10 +22,9 @@ use Rattle.frames.specs.Bits.{place_of}
 use Rattle.frames.proofs.Ordered.{placed}
 use Rattle.frames.proofs.Parted.{frame_front}
 use Rattle.frames.proofs.Blanks.{replicate_at}
-use Rattle.messages.specs.Messages.{Content, content, settled, joined, track_asked, questioned, blank}
+use Rattle.messages.specs.Messages.{Content, content, settled, joined, questioned, blank}
 use Rattle.messages.specs.Contents.{held, index_in, Stands, Fine}
 use Rattle.messages.specs.Indexed.{By, cells_by}
-use Rattle.messages.specs.Indexed.Bodies.{none}
 use Rattle.messages.proofs.Planned.{Away, plan_each}
 use Rattle.messages.proofs.Placing.{spelt, Good}
 use Rattle.messages.proofs.Building.{away_none}

@@ -17,7 +17,8 @@ use Rattle.frames.specs.Bits.{place_of}
 use Rattle.messages.proofs.Asked.{by_begun}
 use Rattle.messages.specs.declared.turns.Next.{Next}
 use Rattle.messages.specs.declared.turns.Next.TheVariants.{End, Frame, Refused}
-use Rattle.messages.specs.Messages.{Content, content, and_then, bare, spotted, slot_spot, settled, joined, field, track_asked, questioned, read_slot, read_slots, blank, begun, turn, next_frame, read_from}
+use Rattle.messages.specs.Messages.{Content, content, and_then, bare, spotted, slot_spot, settled, joined, field, questioned, read_slot, read_slots, blank, next_frame, read_from}
+use Rattle.messages.specs.Asked.{begun, turn}
 use Rattle.messages.specs.Laws.{StrictIsOpen}
 use Rattle.messages.proofs.Steps.{slot_by}
 use Rattle.messages.proofs.Placing.{settled_ok, slot_read, slots_head}

@@ -1,5 +1,5 @@
 -- What was read of a frame's slots: where they stand, that they fit, and that every track was accepted.
-use Rattle.std.proofs.Common.{◌≡◌, ℕ, suc, ◌+◌, ◌-◌, ◌^◌, ◌<◌, ◌⊎◌, List, [], ◌∷◌, ◌++◌, length, get_or, drop, set, Ok, Err, Result, sym, refl, ap, ◌∙◌, subst, ap₂, ⊎_elim, add-zero, add_assoc, arith, length-set, get_or-set_other, get_or-set_same, pow_pos}
+use Rattle.std.proofs.Common.{◌≡◌, ℕ, suc, ◌+◌, ◌-◌, ◌^◌, ◌<◌, List, [], ◌∷◌, ◌++◌, length, get_or, drop, set, Ok, Err, Result, sym, refl, ap, ◌∙◌, subst, ap₂, ⊎_elim, add-zero, add_assoc, arith, length-set, get_or-set_other, get_or-set_same, pow_pos}
 use Rattle.std.specs.List.{AllByRecursion}
 use Rattle.std.proofs.lemmas.Bool.{cases_lt, lt-ltb, le-ltb}
 use Rattle.refusals.specs.declared.refusal.Spot.{Spot}
@@ -23,7 +23,7 @@ use Rattle.frames.proofs.Lags.{by_four}
 use Rattle.modes.specs.Plan.{low_bits, high_bits, part_width, plan, total}
 use Rattle.frames.specs.Bits.{place_of}
 use Rattle.frames.proofs.Blanks.{replicate_at}
-use Rattle.messages.specs.Messages.{content, and_then, spotted, slot_spot, settled, joined, field, track_asked, questioned, read_slot, read_slots, blank}
+use Rattle.messages.specs.Messages.{content, and_then, spotted, slot_spot, settled, joined, field, questioned, read_slot, read_slots, blank}
 use Rattle.messages.specs.Contents.{Fine}
 use Rattle.messages.proofs.Planned.{Away, Rises, rises_head, rises_away, plan_part, plan_away, plan_rises}
 

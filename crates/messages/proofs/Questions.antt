@@ -13,7 +13,8 @@ use Rattle.modes.specs.declared.mode.Mode.{Mode}
 use Rattle.modes.specs.declared.plan.Part.TheVariants.{High}
 use Rattle.modes.specs.Modes.{row, pulses_in}
 use Rattle.frames.specs.Bits.{place_of}
-use Rattle.messages.specs.Messages.{settled, joined, track_asked}
+use Rattle.messages.specs.Messages.{settled, joined}
+use Rattle.messages.specs.Asked.{track_asked}
 
 -- six pulses have room for every index
 pub few : (how : Reading) (n M i : ℕ) (ps : List Pulse) → read_index how n M i ≡ Ok ps → length ps ≤ 6

@@ -1,5 +1,5 @@
 -- A fine frame has a record, and but one.
-use Rattle.std.proofs.Common.{◌≡◌, ℕ, ◌+◌, ◌*◌, ◌/◌, ◌%◌, ◌^◌, ◌<◌, ◌≤◌, ◌⊎◌, List, [], map, get_or, take, sym, refl, ap, ◌∙◌, subst, ap₂, inl, ⊎_elim, arith, pow_pos}
+use Rattle.std.proofs.Common.{◌≡◌, ℕ, ◌+◌, ◌*◌, ◌/◌, ◌%◌, ◌^◌, ◌<◌, ◌≤◌, List, [], map, get_or, take, sym, refl, ap, ◌∙◌, subst, ap₂, inl, ⊎_elim, arith, pow_pos}
 use Rattle.std.specs.List.{range_with_len}
 use Rattle.std.proofs.lemmas.Bool.{cases_lt}
 use Rattle.std.proofs.lemmas.List.{get_or_past}
@@ -18,7 +18,6 @@ use Rattle.modes.specs.Fields.{cell_of, field_at, width}
 use Rattle.modes.proofs.Modes.{pulses_in_few, pulses_in_has, pulses_in_here}
 use Rattle.frames.specs.declared.frame.Frame.{Frame}
 use Rattle.frames.specs.Lawful.{Fit, OnTrack, Rising, Padded, Long}
-use Rattle.frames.specs.Frames.{pulses}
 use Rattle.frames.proofs.Cells.{field_cell, width_has}
 use Rattle.frames.proofs.Taken.{LawfulRow, taken_row, sorted_group, padded_front}
 use Rattle.frames.proofs.Alike.{frame_ext}

@@ -18,7 +18,8 @@ use Rattle.frames.specs.Bits.{place_of}
 use Rattle.messages.proofs.Asked.{by_begun}
 use Rattle.messages.specs.declared.turns.Next.{Next}
 use Rattle.messages.specs.declared.turns.Next.TheVariants.{End, Frame, Refused}
-use Rattle.messages.specs.Messages.{Content, content, and_then, refuse, spot_at, bare, spotted, slot_spot, field, questioned, read_slot, read_slots, blank, filler, ending, begun, turn, next_frame, read_from}
+use Rattle.messages.specs.Messages.{Content, content, and_then, refuse, spot_at, bare, spotted, slot_spot, field, questioned, read_slot, read_slots, blank, filler, ending, next_frame, read_from}
+use Rattle.messages.specs.Asked.{begun, turn}
 use Rattle.messages.specs.Laws.{RefusalsTellWhere}
 use Rattle.messages.proofs.Turning.{onward, by_turn}
 

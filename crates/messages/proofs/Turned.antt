@@ -1,5 +1,5 @@
 -- What was read of a message: its cells, and that every frame is fine.
-use Rattle.std.proofs.Common.{◌≡◌, ℕ, zero, suc, ◌+◌, ◌-◌, ◌<◌, cond, ◌&&◌, eqb, List, [], ◌∷◌, ◌++◌, length, drop, Some, None, Ok, Err, Option, Result, sym, refl, ap, ◌∙◌, subst, ap₂, arith, length-drop}
+use Rattle.std.proofs.Common.{◌≡◌, ℕ, zero, suc, ◌+◌, ◌<◌, cond, ◌&&◌, eqb, List, [], ◌∷◌, ◌++◌, length, drop, Some, None, Ok, Err, Option, Result, sym, refl, ap, ◌∙◌, subst, ap₂, arith, length-drop}
 use Rattle.std.specs.List.{AllByRecursion}
 use Rattle.std.proofs.lemmas.Bool.{cond_both, eqb-true, eqb-false, and_parts}
 use Rattle.refusals.specs.declared.cause.Cause.TheVariants.{NoSuchMode, TooManyFrames, BadFill}
@@ -16,7 +16,8 @@ use Rattle.modes.specs.Plan.{plan, total}
 use Rattle.messages.proofs.Asked.{by_begun}
 use Rattle.messages.specs.declared.turns.Next.{Next}
 use Rattle.messages.specs.declared.turns.Next.TheVariants.{End, Frame, Refused}
-use Rattle.messages.specs.Messages.{Content, content, refuse, bare, field, filler, ending, read_slots, blank, when_mode, begun, turn, next_frame, read_from, read_frames}
+use Rattle.messages.specs.Messages.{Content, content, refuse, bare, field, filler, ending, read_slots, blank, next_frame, read_from, read_frames}
+use Rattle.messages.specs.Asked.{when_mode, begun, turn}
 use Rattle.messages.specs.Seen.{nth, seen}
 use Rattle.messages.specs.Contents.{Fine}
 use Rattle.messages.proofs.Placing.{then_ok, spotted_ok, spelt, slots_read, frame_fine}

@@ -10,7 +10,8 @@ use Rattle.modes.specs.Plan.{plan, total}
 use Rattle.messages.proofs.Asked.{by_begun}
 use Rattle.messages.specs.declared.turns.Next.{Next}
 use Rattle.messages.specs.declared.turns.Next.TheVariants.{End, Frame, Refused}
-use Rattle.messages.specs.Messages.{Content, content, and_then, bare, field, ending, read_slots, blank, begun, turn, next_frame, by_next, read_from}
+use Rattle.messages.specs.Messages.{Content, content, and_then, bare, field, ending, read_slots, blank, next_frame, by_next, read_from}
+use Rattle.messages.specs.Asked.{begun, turn}
 
 module _ (how : Reading) (cs : List Cell) (left n at : ℕ) (p : Spot) (e : p ≡ bare n at) where
   here : {r : Result ℕ Refusal} → r ≡ field cs p at 4 → field cs (bare n at) at 4 ≡ r

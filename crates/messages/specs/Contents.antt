@@ -1,9 +1,9 @@
 -- The record that a frame in a message stands for. Assumes Messages, and the frames, the plan and the indices of the crates below.
---   held b p           what a frame in a message has for the part p; 0 where its mode has no such part
---   index_in b s t      the index of a track there
---   Stands b f         f is the record of the frame b: its mode, its fields, and the sets of its indices in order
---   Fine how b         every value fits its bits, and every index is accepted
---   Returned r n a     the answer a to returning frame n of the read message r: its record; or the refusal of reading; or that there is none
+--   held b p         what a frame in a message has for the part p; 0 where its mode has no such part
+--   index_in b s t   the index of a track there
+--   Stands b f       f is the record of the frame b: its mode, its fields, and the sets of its indices in order
+--   Fine how b       every value fits its bits, and every index is accepted
+--   Returned r n a   the answer a to returning frame n of the read message r: its record; or the refusal of reading; or that there is none
 use Rattle.std.specs.Prelude.{◌≡◌, ℕ, ◌^◌, ◌<◌, List, Some, None, Ok, Err, Option, Result, slice_index}
 use Rattle.refusals.specs.declared.cause.Cause.TheVariants.{NoSuchFrame}
 use Rattle.refusals.specs.declared.refusal.Refusal.{Refusal}

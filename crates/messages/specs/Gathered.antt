@@ -1,9 +1,9 @@
 -- All frames of a message, as records. Assumes Messages, Contents, Written, Indexed.
---   Records bs fs     the records fs are those of the frames bs, one by one
+--   Records bs fs        the records fs are those of the frames bs, one by one
 --   HandsOut how cs fs   reading the cells cs hands out just the frames fs
---   HandsOutMessages   strict reading hands out fs exactly where the cells are the message of fs, which are at most 512
+--   HandsOutMessages     strict reading hands out fs exactly where the cells are the message of fs, which are at most 512
 --   HandsOutByIndices reading hands out fs exactly where the cells are those of fs, at most 512, by some indices of their sets
---   Gathered r a      the answer a to handing out all frames of the read message r: their records; or the refusal of reading; or that there is no memory
+--   Gathered r a   the answer a to handing out all frames of the read message r: their records; or the refusal of reading; or that there is no memory
 use Rattle.std.specs.Prelude.{◌≡◌, ◌≤◌, ◌↔◌, List, [], ◌∷◌, length, Ok, Err, vec_items, Result, Vec}
 use Rattle.std.specs.declared.alloc.Global.{Global}
 use Rattle.refusals.specs.declared.refusal.Refusal.{Refusal}

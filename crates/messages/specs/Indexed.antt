@@ -1,9 +1,9 @@
 -- Reading by the index relation: the cells of frames, each track by any index of its set that is accepted. Assumes Messages, Written and the rules of the indices.
---   By how f g          the values g are those of the record f: its fields, and for each track an index of its set, strictly the house's
---   cells_by f g         the mode of f in 4 bits, then the values g in the slots of its plan
---   Bodies how fs cs    the cells cs are those of the frames fs, one after the other, each by some values
---   ended front         the cells front, 1111, and zeros up to a multiple of eight
---   ReadsByIndices    reading accepts exactly when the cells are such, of at most 512 frames, and answers how many these are
+--   By how f g         the values g are those of the record f: its fields, and for each track an index of its set, strictly the house's
+--   cells_by f g       the mode of f in 4 bits, then the values g in the slots of its plan
+--   Bodies how fs cs   the cells cs are those of the frames fs, one after the other, each by some values
+--   ended front        the cells front, 1111, and zeros up to a multiple of eight
+--   ReadsByIndices     reading accepts exactly when the cells are such, of at most 512 frames, and answers how many these are
 use Rattle.std.specs.Prelude.{◌≡◌, ℕ, ◌+◌, ◌^◌, ◌<◌, ◌≤◌, ◌↔◌, List, [], ◌∷◌, ◌++◌, map, length, Ok}
 use Rattle.carriers.specs.Cells.{Cell}
 use Rattle.carriers.specs.Fields.{bits_of}

@@ -1,13 +1,13 @@
 -- What reading means: by what a message is, strictly against openly, and one message against another. Assumes Messages, Contents, Written.
---   StrictIsOpen            whatever is accepted strictly is accepted openly, with the same frames
---   ReadsMessages            strict reading accepts exactly the messages of at most 512 frames, and answers how many these are
---   picked fs n               frame n of fs, or that there is none
---   ReturnsFrames            strict return of frame n of the message of fs gives frame n of fs
---   Alike fs gs               fs and gs agree in number and, one by one, in mode, in fields and in excitation
---   TrackRefusals            a track whose parts fit is refused for both signs, or strictly for an index that is not the house's, and for nothing else
---   RefusalsTellWhere       a refusal of reading tells a frame and a cell
---   NoBeginnings             no accepted message, strictly or openly, is the beginning of a longer one
---   EqualMessagesAgree      two messages are equal exactly when their frames agree
+--   StrictIsOpen         whatever is accepted strictly is accepted openly, with the same frames
+--   ReadsMessages        strict reading accepts exactly the messages of at most 512 frames, and answers how many these are
+--   picked fs n          frame n of fs, or that there is none
+--   ReturnsFrames        strict return of frame n of the message of fs gives frame n of fs
+--   Alike fs gs          fs and gs agree in number and, one by one, in mode, in fields and in excitation
+--   TrackRefusals        a track whose parts fit is refused for both signs, or strictly for an index that is not the house's, and for nothing else
+--   RefusalsTellWhere    a refusal of reading tells a frame and a cell
+--   NoBeginnings         no accepted message, strictly or openly, is the beginning of a longer one
+--   EqualMessagesAgree   two messages are equal exactly when their frames agree
 use Rattle.std.specs.Prelude.{◌≡◌, ℕ, zero, suc, ◌^◌, ◌<◌, ◌≤◌, ◌⊎◌, ◌↔◌, List, [], ◌∷◌, ◌++◌, length, Some, Ok, Err, Result, slice_index}
 use Rattle.refusals.specs.declared.cause.Cause.TheVariants.{BothSigns, NotHouseIndex, NoSuchFrame}
 use Rattle.refusals.specs.declared.refusal.Refusal.{Refusal}

@@ -1,4 +1,5 @@
 pub mod Messages
+pub mod Asked
 pub mod Seen
 pub mod Turn
 pub mod Contents

@@ -1,23 +1,19 @@
 -- Reading a message, strictly or openly: what it answers, over the list of its cells. Assumes the cells of carriers, the plan of a mode, the parts of a frame and the indices of tracks.
 --   and_then r f            what f makes of the answer r; a refusal stays
 --   spot_at n p at          frame n, the subframe and the track of the spot p, and the cell at
---   bare n at              a spot of frame n without subframe and track
---   spotted p r            the answer r; a refusal is told at the spot p
---   field cs p at w        the number in the w cells from a place on, the field of the spot p
---   joined h w v           the index of the high part h and of the low part v of w bits
+--   bare n at               a spot of frame n without subframe and track
+--   spotted p r             the answer r; a refusal is told at the spot p
+--   field cs p at w         the number in the w cells from a place on, the field of the spot p
+--   joined h w v            the index of the high part h and of the low part v of w bits
 --   questioned how m vs x w v   may the value v of w bits stand for the part x, after the values vs: a track is asked with its last part
---   completed x            the track that is whole with the part x: with its low part, which comes last
---   track_asked ..         may the value v of w bits be the low part of a track, after the values vs: `questioned` asks just where a track is whole
---   read_slot, read_slots    one slot of a plan, and the slots one after the other: the values by the places of their parts
---   blank                  no value yet: 0 at each place; place 56 is no part's
---   filler at              how many cells there are from a place to the next multiple of eight
---   ending cs n at         what comes after 1111: zeros up to a multiple of eight, and nothing more
---   Content                a frame as it stands in a message: its mode, and the values of its parts by their places
---   begun left v           what the number v of the mode cells begins, where so many more frames may come
---   turn how cs n at k     frame n, of which the mode cells at a place began k: none where the message ends
+--   read_slot, read_slots   one slot of a plan, and the slots one after the other: the values by the places of their parts
+--   blank                   no value yet: 0 at each place; place 56 is no part's
+--   filler at               how many cells there are from a place to the next multiple of eight
+--   ending cs n at          what comes after 1111: zeros up to a multiple of eight, and nothing more
+--   Content                 a frame as it stands in a message: its mode, and the values of its parts by their places
 --   next_frame              frame n, where so many more frames may come: none where the message ends
 --   read_from, read_frames   the frames from a place on after those before, and all frames of a message
---   counted r              how many they are
+--   counted r               how many they are
 use Rattle.std.specs.Prelude.{ℕ, zero, suc, ◌+◌, ◌-◌, ◌*◌, ◌%◌, ◌^◌, cond, ◌&&◌, List, [], ◌∷◌, ◌++◌, length, replicate, Some, None, Ok, Err, Option, Result, ◌==◌, slice_index, slice_set}
 use Rattle.refusals.specs.declared.cause.Cause.{Cause}
 use Rattle.refusals.specs.declared.cause.Cause.TheVariants.{NoSuchMode, TooManyFrames, BadFill}
@@ -37,8 +33,6 @@ use Rattle.modes.specs.Modes.{mode_of, row, pulses_in}
 use Rattle.modes.specs.Fields.{part_spot}
 use Rattle.modes.specs.Plan.{plan, total}
 use Rattle.frames.specs.Bits.{place_of}
-use Rattle.messages.specs.declared.turns.Next.{Next}
-use Rattle.messages.specs.declared.turns.Next.TheVariants.{End, Frame, Refused}
 
 abbrev pub and_then : {X Y : Type 0} → Result X Refusal → (X → Result Y Refusal) → Result Y Refusal
 and_then (Ok x) f = f x
@@ -74,18 +68,6 @@ questioned how m vs (High s t) w v = Ok tt
 questioned how m vs (Low s t) w v =
     settled (read_index how (pulses_in m s t) (row m).places (joined (slice_index vs (place_of (High s t))) w v))
 
-abbrev pub completed : Part → Option (ℕ × ℕ)
-completed (Value x) = None
-completed (High s t) = None
-completed (Low s t) = Some (s, t)
-
-unfoldable pub track_asked : Reading → Mode → List ℕ → ℕ → ℕ → ℕ → ℕ → Result Unit Refusal
-track_asked how m vs w v s t = settled (read_index how (pulses_in m s t) (row m).places (joined (slice_index vs (place_of (High s t))) w v))
-
-abbrev pub if_whole : Option (ℕ × ℕ) → (ℕ → ℕ → Result Unit Refusal) → Result Unit Refusal
-if_whole None ask = Ok tt
-if_whole (Some x) ask = ask x.0 x.1
-
 abbrev pub slot_spot : ℕ → Slot → ℕ → Spot
 slot_spot n s at = spot_at n (part_spot s.part) at
 
@@ -117,19 +99,6 @@ pub record Content : Type 0 where
 
 abbrev pub content : Mode → List ℕ → Content
 content m vs = record { mode = m; values = vs }
-
-abbrev pub when_mode : Next → (Mode → Next) → Option Mode → Next
-when_mode other go None = other
-when_mode other go (Some m) = go m
-
--- the questions of `next_frame` below, one by one: a turn goes by what its mode cells begin
-abbrev pub begun : ℕ → ℕ → Next
-begun left v = cond (v == 15) End (when_mode (Refused NoSuchMode) (λ m. cond (left == 0) (Refused TooManyFrames) (Frame m)) (mode_of v))
-
-unfoldable pub turn : Reading → List Cell → ℕ → ℕ → Next → Result (Option Content) Refusal
-turn how cs n at End = and_then (ending cs n (at + 4)) (λ _. Ok None)
-turn how cs n at (Refused c) = refuse c (bare n at)
-turn how cs n at (Frame m) = and_then (read_slots how cs m n (at + 4) (plan m) blank) (λ vs. Ok (Some (content m vs)))
 
 abbrev pub if_mode : {X : Type 0} → Result X Refusal → (Mode → Result X Refusal) → Option Mode → Result X Refusal
 if_mode other go None = other

@@ -1,9 +1,9 @@
 -- What the code keeps of a message: how many frames, and one of them. Assumes Messages.
 --   content_of b       what a body stands for
---   framed o          the same, where there is one
+--   framed o           the same, where there is one
 --   framed_of r        the same of an answer
---   nth fs k          frame k of fs, if there is one
---   told r, seen k r  how many frames, and frame k, as the code and as the definition have it
+--   nth fs k           frame k of fs, if there is one
+--   told r, seen k r   how many frames, and frame k, as the code and as the definition have it
 use Rattle.std.specs.Prelude.{ℕ, zero, suc, List, [], ◌∷◌, length, Some, None, Ok, Err, Option, Result}
 use Rattle.refusals.specs.declared.refusal.Refusal.{Refusal}
 use Rattle.messages.specs.declared.body.Body.{Body}

@@ -1,6 +1,6 @@
 -- What reading one frame leaves for the next. Assumes Messages, Seen.
---   values_of r            the values that a body was read with
---   Onward long n at r    after frame n at a place, the next begins behind it, within the cells
+--   values_of r          the values that a body was read with
+--   Onward long n at r   after frame n at a place, the next begins behind it, within the cells
 use Rattle.std.specs.Prelude.{◌≡◌, ℕ, ◌+◌, ◌<◌, ◌≤◌, List, Some, None, Ok, Err, Option, Result}
 use Rattle.refusals.specs.declared.refusal.Refusal.{Refusal}
 use Rattle.modes.specs.Plan.{plan, total}

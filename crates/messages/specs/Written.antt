@@ -1,8 +1,8 @@
 -- What a message is, with house indices. Assumes Messages and the bits of frames.
---   as_cells bs       the bits bs as cells
---   frame_cells f     the mode in 4 bits, then the bits of the frame
---   body fs          the cells of the frames fs, one after the other
---   message fs       the message of fs: their cells, 1111, and zeros up to a multiple of eight
+--   as_cells bs     the bits bs as cells
+--   frame_cells f   the mode in 4 bits, then the bits of the frame
+--   body fs         the cells of the frames fs, one after the other
+--   message fs      the message of fs: their cells, 1111, and zeros up to a multiple of eight
 use Rattle.std.specs.Prelude.{ℕ, ◌+◌, List, [], ◌∷◌, ◌++◌, map, length}
 use Rattle.carriers.specs.Bits.{bit_of}
 use Rattle.carriers.specs.Cells.{Cell, bit}

@@ -1,7 +1,7 @@
 ghost use Rattle.std.specs.Prelude.{◌≡◌, ◌+◌, ◌^◌, ◌<◌, ◌≤◌, length, IfOk};
 ghost use Rattle.carriers.specs.FieldReading.{read_bits};
 ghost use Rattle.modes.specs.Fields.{part_spot};
-ghost use Rattle.messages.specs.Messages.{bare as bareAt, spot_at, spotted, field as field_of, filler as fillerOf, ending as endingAt};
+ghost use Rattle.messages.specs.Messages.{bare as bare_at, spot_at, spotted, field as field_of, filler as filler_of, ending as ending_at};
 
 use carriers::fields::read_bits;
 use carriers::traits::ReadCarrier;
@@ -11,7 +11,7 @@ use refusals::refusal::{Refusal, Spot};
 
 /// A spot of a frame that tells no subframe and no track.
 pub(crate) fn bare(frame: u32, cell: usize) -> Spot
-    ensures { result ≡ bareAt frame cell }
+    ensures { result ≡ bare_at frame cell }
 {
     Spot {
         frame: Some(frame),
@@ -73,7 +73,7 @@ pub(crate) fn field<R: ReadCarrier>(
 
 /// How many cells there are up to the next multiple of eight.
 fn filler(at: usize) -> u8
-    ensures is { result ≡ fillerOf at }
+    ensures is { result ≡ filler_of at }
     ensures few { result < 8 }
 {
     ((8 - at % 8) % 8) as u8
@@ -82,7 +82,7 @@ fn filler(at: usize) -> u8
 /// The number in the fill cells, all of which are read.
 fn fill<R: ReadCarrier>(carrier: &R, spot: Spot, at: usize) -> Result<u32, Refusal>
     requires { at ≤ length (R.cells carrier.now) }
-    ensures { result ≡ field_of (R.cells carrier.now) spot at (fillerOf at) }
+    ensures { result ≡ field_of (R.cells carrier.now) spot at (filler_of at) }
 {
     field(carrier, spot, at, filler(at))
 }
@@ -90,7 +90,7 @@ fn fill<R: ReadCarrier>(carrier: &R, spot: Spot, at: usize) -> Result<u32, Refus
 /// What comes after 1111.
 pub(crate) fn ending<R: ReadCarrier>(carrier: &R, frame: u32, at: usize) -> Result<(), Refusal>
     requires { at ≤ length (R.cells carrier.now) }
-    ensures { result ≡ endingAt (R.cells carrier.now) frame at }
+    ensures { result ≡ ending_at (R.cells carrier.now) frame at }
 {
     let spot = bare(frame, at);
     let value = fill(carrier, spot, at)?;

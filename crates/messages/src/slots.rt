@@ -1,7 +1,8 @@
 ghost use Rattle.std.specs.Prelude.{◌≡◌, ◌+◌, ◌*◌, ◌^◌, ◌<◌, ◌≤◌, length, IfOk, if◌then◌else◌, nat_lt};
 ghost use Rattle.modes.specs.Plan.{plan, total};
 ghost use Rattle.frames.specs.Bits.{place_of};
-ghost use Rattle.messages.specs.Messages.{joined as joinedOf, completed as completedBy, track_asked, questioned, read_slot, read_slots, blank};
+ghost use Rattle.messages.specs.Messages.{joined as joined_of, questioned, read_slot, read_slots, blank};
+ghost use Rattle.messages.specs.Asked.{completed as completed_by, track_asked};
 ghost use Rattle.messages.specs.Turn.{values_of};
 
 use crate::body::Body;
@@ -48,14 +49,14 @@ pub(crate) fn place(part: Part) -> usize
 pub(crate) fn joined(high: u16, width: u8, low: u32) -> u32
     requires narrow { width ≤ 16 }
     requires fits { low < 2 ^ width }
-    ensures { result ≡ joinedOf high width low }
+    ensures { result ≡ joined_of high width low }
 {
     high as u32 * (1u32 << width) + low
 }
 
 /// The track that is whole with a part, by its subframe and its number.
 fn completed(part: Part) -> Option<(usize, usize)>
-    ensures { result ≡ completedBy part }
+    ensures { result ≡ completed_by part }
 {
     match part {
         Part::Value(_) => None,

@@ -1,5 +1,6 @@
 ghost use Rattle.std.specs.Prelude.{◌≡◌, ◌-◌, ◌<◌, ◌≤◌, length, if◌then◌else◌, Some, nat_eq};
-ghost use Rattle.messages.specs.Messages.{read_frames, begun as begunBy, next_frame};
+ghost use Rattle.messages.specs.Messages.{read_frames, next_frame};
+ghost use Rattle.messages.specs.Asked.{begun as begun_by};
 ghost use Rattle.messages.specs.Seen.{framed, framed_of, told, seen};
 ghost use Rattle.messages.specs.Turn.{Onward};
 ghost use Rattle.messages.specs.Gathered.{Gathered};
@@ -34,7 +35,7 @@ pub enum Next {
 /// What `number` begins, where `left` more frames may come.
 fn begun(number: u32, left: u32) -> Next
     requires { number < 16 }
-    ensures { result ≡ begunBy left number }
+    ensures { result ≡ begun_by left number }
 {
     if number == 15 {
         return Next::End;

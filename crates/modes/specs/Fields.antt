@@ -1,9 +1,9 @@
 -- The fields of a frame that are no pulse fields. Assumes Modes.
---   cell_of x      what a field stands for: its cell in a record; 24 is no cell
---   field_at k     the field of cell k
---   width m x     the bits that mode m gives the field x; 0: it has no such field
---   spot_of x      what a refusal tells of the field x: its subframe, if it has one
---   track_spot s t, part_spot p    the same of a track, and of a part of the plan
+--   cell_of x    what a field stands for: its cell in a record; 24 is no cell
+--   field_at k   the field of cell k
+--   width m x    the bits that mode m gives the field x; 0: it has no such field
+--   spot_of x    what a refusal tells of the field x: its subframe, if it has one
+--   track_spot s t, part_spot p   the same of a track, and of a part of the plan
 use Rattle.std.specs.Prelude.{ℕ, ◌+◌, ◌-◌, cond, Some, None, nat_lt, slice_index}
 use Rattle.refusals.specs.declared.refusal.Spot.{Spot}
 use Rattle.refusals.specs.Spots.{nowhere}

@@ -1,8 +1,8 @@
 -- The table of the modes. Assumes nothing.
---   number_of m        what a mode stands for: its number, 0 to 8
---   modes             the modes, by their numbers
---   mode_of n          the mode with the number n, if there is one
---   row m             what the mode m gives a frame; 0 bits or 0 pulses: the mode has no such field or track
+--   number_of m   what a mode stands for: its number, 0 to 8
+--   modes         the modes, by their numbers
+--   mode_of n     the mode with the number n, if there is one
+--   row m         what the mode m gives a frame; 0 bits or 0 pulses: the mode has no such field or track
 --     spectrum        the bits of spectrum fields 0 to 6
 --     delays          the bits of the delays of subframes 0 to 3
 --     filter          the bits of a subframe's filter flag
@@ -11,7 +11,7 @@
 --     pulses          the pulses of tracks 0 to 3
 --     places          the width of a track: it has 2 ^ places places
 --     tracks          how many tracks share a subframe's samples: place p of track t is sample p * tracks + t
---   pulses_in m s t    the pulses of track t of subframe s
+--   pulses_in m s t   the pulses of track t of subframe s
 use Rattle.std.specs.Prelude.{ℕ, zero, suc, cond, List, [], ◌∷◌, Some, None, Option, nat_lt, slice_index}
 use Rattle.modes.specs.declared.mode.Mode.{Mode}
 use Rattle.modes.specs.declared.mode.Mode.TheVariants.{Rate6k60, Rate8k85, Rate12k65, Rate14k25, Rate15k85, Rate18k25, Rate19k85, Rate23k05, Rate23k85}

@@ -1,10 +1,10 @@
 -- The slot at a place of the plan, computed. Assumes Plan.
---   heads m          how many slots stand before the subframes
---   cuts m           how many high parts a subframe has
---   each m           how many slots a subframe has
---   part_in m s i     slot i of subframe s
---   slot_at m k       slot k of the plan, if there is one
---   size m           the bits of a frame
+--   heads m         how many slots stand before the subframes
+--   cuts m          how many high parts a subframe has
+--   each m          how many slots a subframe has
+--   part_in m s i   slot i of subframe s
+--   slot_at m k     slot k of the plan, if there is one
+--   size m          the bits of a frame
 use Rattle.std.specs.Prelude.{ℕ, ◌+◌, ◌-◌, ◌/◌, ◌%◌, cond, Some, None, Option, ◌==◌, nat_lt}
 use Rattle.modes.specs.declared.mode.Mode.{Mode}
 use Rattle.modes.specs.declared.mode.Mode.TheVariants.{Rate6k60, Rate8k85, Rate12k65, Rate14k25, Rate15k85, Rate18k25, Rate19k85, Rate23k05, Rate23k85}

@@ -1,8 +1,8 @@
 -- The plan of a mode: its slots, in the order of their bits. Assumes Modes, Fields.
---   index_bits m s t    the bits of the index of track t of subframe s
---   high_bits w         an index of 16, 20 or 22 bits is cut: so many of them are its high part
---   low_bits m s t      the bits of its low part: all, where the index is not cut
---   part_width m p      the bits of a part: 0 where the mode has no such part
+--   index_bits m s t   the bits of the index of track t of subframe s
+--   high_bits w        an index of 16, 20 or 22 bits is cut: so many of them are its high part
+--   low_bits m s t     the bits of its low part: all, where the index is not cut
+--   part_width m p     the bits of a part: 0 where the mode has no such part
 --   subframe s         the parts of a subframe
 --   order              the parts of a frame: the voice flag, the spectrum, then the subframes
 --   plan m             the slots of the mode: the parts that it has, each with its width

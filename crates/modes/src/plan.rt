@@ -4,7 +4,7 @@ ghost use Rattle.modes.specs.Fields.{width as width_of};
 ghost use Rattle.pulses.specs.Rules.{bits as bits_of};
 ghost use Rattle.modes.specs.Fields.{track_spot, part_spot};
 ghost use Rattle.modes.specs.Plan.{high_bits, part_width, slot as slot_of, plan as plan_of, nth, total, Narrow, Totals};
-ghost use Rattle.modes.specs.Places.{heads as headsOf, cuts as cuts_of, each as eachOf, part_in, size as size_of};
+ghost use Rattle.modes.specs.Places.{heads as heads_of, cuts as cuts_of, each as each_of, part_in, size as size_of};
 
 use crate::field::Field;
 use crate::mode::Mode;
@@ -92,7 +92,7 @@ impl Mode {
 
     /// How many slots stand before the subframes.
     fn heads(self) -> usize
-        ensures is { result ≡ headsOf self }
+        ensures is { result ≡ heads_of self }
         ensures few { result ≤ 8 }
     {
         match self {
@@ -122,7 +122,7 @@ impl Mode {
 
     /// How many slots a subframe has.
     fn each(self) -> usize
-        ensures is { result ≡ eachOf self }
+        ensures is { result ≡ each_of self }
         ensures some { (1 ≤ result) × (result ≤ 12) }
     {
         match self {

@@ -13,7 +13,7 @@ use Rattle.pulses.specs.Rules.{Choice, Lowest, One, Two, Three, Close, Four, Fiv
 use Rattle.pulses.specs.House.{one_house, two_places, two_rising, two_house, fuller, others, three_by, three_house, close_by, close_house, four_halves, four_house, five_by, five_house, six_halves, six_house}
 use Rattle.pulses.proofs.Cuts.{zero_or_one}
 use Rattle.pulses.proofs.Tallies.{up_by, hit_self, same_size, same_swap, same_up, same_sym, up_zero, tally_append, lawful_same, lawful_left, lawful_right, lawful_down, hit_apart, hit_up, hit_place}
-use Rattle.pulses.proofs.Halves.{halves, parted, full, half_none, half_in, half_out, half_append, half_up, half_up_other, on_half, on_up, length_up, sorted_half, sorted_take, group_take, group_drop}
+use Rattle.pulses.proofs.Halves.{halves, parted, half_none, half_in, half_out, half_append, half_up, half_up_other, on_half, on_up, length_up, sorted_half, sorted_take, group_take, group_drop}
 use Rattle.pulses.proofs.Houses.{one_houses, two_houses, group_size}
 use Rattle.pulses.proofs.Canon.{same_sorted, same_sort, sorted_sort, sort_is}
 

@@ -1,11 +1,11 @@
 -- What the two index calls answer, and the laws of those answers. Assumes Pulses, Rules, Reading, House, Sets.
---   used n M             some mode uses n pulses on a track of width M
---   choice how           what a way of reading stands for: strict reading takes the house's indices alone, open reading every index
---   write_index M ps      the answer to writing the pulses ps, in any sequence
---   read_index how n M i  the set of the index i, in order, or why it is refused
---   handed room r        the answer after the last question: is the buffer long enough?
---   filled out r         what stands in the buffer then
---   Exactly A B          A holds exactly when B does
+--   used n M           some mode uses n pulses on a track of width M
+--   choice how         what a way of reading stands for: strict reading takes the house's indices alone, open reading every index
+--   write_index M ps   the answer to writing the pulses ps, in any sequence
+--   read_index how n M i   the set of the index i, in order, or why it is refused
+--   handed room r      the answer after the last question: is the buffer long enough?
+--   filled out r       what stands in the buffer then
+--   Exactly A B        A holds exactly when B does
 use Rattle.std.specs.Prelude.{◌≡◌, ℕ, ◌^◌, ◌<◌, Bool, true, cond, ◌&&◌, ◌||◌, List, ◌++◌, length, drop, IfOk, Ok, Err, Result, ◌==◌, nat_le, nat_lt}
 use Rattle.refusals.specs.declared.cause.Cause.TheVariants.{WrongNumber, NoSuchIndex, NotHouseIndex, BufferTooShort}
 use Rattle.refusals.specs.declared.refusal.Refusal.{Refusal}

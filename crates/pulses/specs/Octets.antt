@@ -1,9 +1,9 @@
 -- Pulses and answers at the border to C. Assumes Pulses, Calls.
---   octet_of p       a pulse as one octet: place + 32 * sign bit
---   pulse_of o       the pulse of an octet; from 64 on it stands on a place of no track
---   answer_of r      an answer as one number: what was accepted, or minus the number of the refusal
---   filled_octets    what stands in an octet buffer after reading
---   way_of strict    the way of reading that a flag asks for
+--   octet_of p      a pulse as one octet: place + 32 * sign bit
+--   pulse_of o      the pulse of an octet; from 64 on it stands on a place of no track
+--   answer_of r     an answer as one number: what was accepted, or minus the number of the refusal
+--   filled_octets   what stands in an octet buffer after reading
+--   way_of strict   the way of reading that a flag asks for
 use Rattle.std.specs.Prelude.{◌≡◌, ℕ, ◌+◌, ◌*◌, ◌/◌, ◌%◌, ◌<◌, ◌≤◌, Bool, cond, List, ◌++◌, map, length, drop, ℤ, pos, neg_ℤ, Ok, Err, Result, nat_le, nat_lt}
 use Rattle.refusals.specs.declared.refusal.Refusal.{Refusal}
 use Rattle.refusals.specs.Refusals.{number_of}

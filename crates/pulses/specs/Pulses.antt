@@ -1,17 +1,17 @@
 -- Signed pulses on a track, and sets of them: lists in which only how often a pulse stands counts. Assumes nothing.
---   bit s            what a sign stands for: its sign bit
---   opposite s       the other sign
---   alike s t        whether two signs are one
---   pulse p s        the pulse at place p with sign s
---   tally ps x s     how many pulses of ps have place x and sign s
---   Same ps qs       ps and qs are one set
---   Lawful ps        no place has both signs
---   On M ps          every place is on the track of width M
---   Sorted ps        from the lowest place up
---   Group M n ps     n pulses on a track of width M, a lawful set
---   up n ps          every place n higher
---   half H h ps      what stands in half h of a track of width H + 1, counted from that half's first place
---   sort ps          ps from the lowest place up
+--   bit s          what a sign stands for: its sign bit
+--   opposite s     the other sign
+--   alike s t      whether two signs are one
+--   pulse p s      the pulse at place p with sign s
+--   tally ps x s   how many pulses of ps have place x and sign s
+--   Same ps qs     ps and qs are one set
+--   Lawful ps      no place has both signs
+--   On M ps        every place is on the track of width M
+--   Sorted ps      from the lowest place up
+--   Group M n ps   n pulses on a track of width M, a lawful set
+--   up n ps        every place n higher
+--   half H h ps    what stands in half h of a track of width H + 1, counted from that half's first place
+--   sort ps        ps from the lowest place up
 use Rattle.std.specs.Prelude.{◌≡◌, ℕ, ◌+◌, ◌/◌, ◌%◌, ◌^◌, ◌<◌, ◌≤◌, Bool, true, false, cond, ◌&&◌, ◌⊎◌, List, [], ◌∷◌, map, length, filter, ◌==◌, nat_eq, nat_le}
 use Rattle.std.specs.List.{AllByRecursion}
 use Rattle.pulses.specs.declared.pulse.Pulse.{Pulse}

@@ -1,9 +1,9 @@
 -- The rules of the indices, as relations between a set of pulses and a number: "this number is an index of this set".
 -- Assumes Pulses. This is the text to believe; reading and the house index are proved to be its two sides.
---   Choice               whether a rule's choices are free, or those of the house: the house index of a set is the one that our writers use
---   One .. Six v M ps i  by that rule, i is an index of the set ps on a track of width M
---   Index v n M ps i     the same by the rule for n pulses
---   bits n M             how many bits an index of n pulses on a track of width M has
+--   Choice                whether a rule's choices are free, or those of the house: the house index of a set is the one that our writers use
+--   One .. Six v M ps i   by that rule, i is an index of the set ps on a track of width M
+--   Index v n M ps i      the same by the rule for n pulses
+--   bits n M              how many bits an index of n pulses on a track of width M has
 -- The width M is suc H where a rule speaks of halves: half h begins at place h * 2 ^ H, and a group named with a half is on width H.
 use Rattle.std.specs.Prelude.{◌≡◌, ℕ, zero, suc, ◌+◌, ◌-◌, ◌*◌, ◌^◌, ◌<◌, ◌≤◌, List, [], ◌∷◌, ◌++◌, length}
 use Rattle.std.specs.List.{AllByRecursion}

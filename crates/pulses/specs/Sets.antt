@@ -1,9 +1,9 @@
 -- The pulses of one track as a call takes them: in any sequence, then questioned, then put in order. Assumes Pulses.
---   every f xs        f holds of each of xs
---   on_track M ps     every place is on the track of width M
---   one_signed ps     no place has both signs
---   checked M ps      ps in order, or the first question that they fail: on the track, no place with both signs
---   padded ps         a row of six: ps, and behind them plus pulses on place 0
+--   every f xs         f holds of each of xs
+--   on_track M ps      every place is on the track of width M
+--   one_signed ps      no place has both signs
+--   checked M ps       ps in order, or the first question that they fail: on the track, no place with both signs
+--   padded ps          a row of six: ps, and behind them plus pulses on place 0
 --   track_set n M ps   the row of a track of n pulses, or why not: the number of pulses, then as checked
 use Rattle.std.specs.Prelude.{ℕ, zero, suc, ◌-◌, ◌^◌, Bool, true, cond, ◌&&◌, List, [], ◌∷◌, ◌++◌, length, replicate, Ok, Err, Result, ◌==◌, nat_eq, nat_le, nat_lt, slice_index_or}
 use Rattle.refusals.specs.declared.cause.Cause.TheVariants.{WrongNumber, OffTrack, BothSigns}

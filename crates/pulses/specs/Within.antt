@@ -1,7 +1,7 @@
 -- Pulses that lie in a part of a track, and how the writing of an index cuts a sorted list of them. Assumes Pulses, House.
---   down M ps                   every place counted from the first place of its part of width M
---   Halved M ps low high        low and high are what stands in the two halves of a part of width M
---   Chosen k M ps h group rest  group is the lowest k of half h, the half that the house takes them from, and rest what is left
+--   down M ps                    every place counted from the first place of its part of width M
+--   Halved M ps low high         low and high are what stands in the two halves of a part of width M
+--   Chosen k M ps h group rest   group is the lowest k of half h, the half that the house takes them from, and rest what is left
 use Rattle.std.specs.Prelude.{◌≡◌, ℕ, ◌-◌, ◌%◌, ◌^◌, ◌<◌, List, map, length, take}
 use Rattle.pulses.specs.declared.pulse.Pulse.{Pulse}
 use Rattle.pulses.specs.Pulses.{pulse, half, Sorted}

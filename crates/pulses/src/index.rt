@@ -1,7 +1,7 @@
 ghost use Rattle.std.specs.Prelude.{◌≡◌, ◌<◌, ◌≤◌, true, length, take, Ok, Err, MatchResult};
 ghost use Rattle.pulses.specs.Rules.{bits as bits_of};
 ghost use Rattle.pulses.specs.Reading.{pulses_of};
-ghost use Rattle.pulses.specs.Calls.{used as usedBy, accepts as acceptedBy, write_index, read_index, handed, filled, ReadsByTheRules, EveryNumberHasOneSet, StrictIsOpen, AcceptsExactlyWhatIsWritten, GivesTheOnlyHouseIndex, WhateverTheSequence, IsReadAgain, AmplitudesTellTheSet};
+ghost use Rattle.pulses.specs.Calls.{used as used_by, accepts as accepted_by, write_index, read_index, handed, filled, ReadsByTheRules, EveryNumberHasOneSet, StrictIsOpen, AcceptsExactlyWhatIsWritten, GivesTheOnlyHouseIndex, WhateverTheSequence, IsReadAgain, AmplitudesTellTheSet};
 
 use crate::pulse::Pulse;
 use crate::read::read;
@@ -20,7 +20,7 @@ pub enum Reading {
 impl Reading {
     /// Whether `index` may stand for the set whose house index is `house`.
     fn accepts(self, house: u32, index: u32) -> bool
-        ensures { result ≡ acceptedBy self house index }
+        ensures { result ≡ accepted_by self house index }
     {
         match self {
             Reading::Strict => house == index,
@@ -31,14 +31,14 @@ impl Reading {
 
 /// Whether some mode uses this number of pulses on a track of this width.
 fn used(number: usize, width: u32) -> bool
-    ensures { result ≡ usedBy number width }
+    ensures { result ≡ used_by number width }
 {
     (width == 5 && number == 1) || (width == 4 && (1 <= number && number <= 6))
 }
 
 /// How many bits an index has.
 fn bits(number: usize, width: u32) -> u32
-    requires { usedBy number width ≡ true }
+    requires { used_by number width ≡ true }
     ensures is { result ≡ bits_of number width }
     ensures few { result < 32 }
 {
@@ -84,7 +84,7 @@ pub fn write_index(width: u32, pulses: &[Pulse]) -> Result<u32, Refusal>
 
 /// The pulses of an index, group after group.
 fn undone(number: usize, width: u32, index: u32) -> [Pulse; 6]
-    requires { usedBy number width ≡ true }
+    requires { used_by number width ≡ true }
     ensures { take number result ≡ pulses_of number width index }
 {
     let mut raw = [NONE; 6];

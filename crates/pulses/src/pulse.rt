@@ -1,5 +1,5 @@
 ghost use Rattle.std.specs.Prelude.{◌≡◌};
-ghost use Rattle.pulses.specs.Pulses.{bit as bit_of, opposite as oppositeOf, alike as likeOf};
+ghost use Rattle.pulses.specs.Pulses.{bit as bit_of, opposite as opposite_of, alike as like_of};
 
 /// The sign of a pulse.
 #[derive(Clone, Copy, PartialEq, Eq, Debug)]
@@ -21,7 +21,7 @@ impl Sign {
 
     /// The other sign.
     pub fn opposite(self) -> Sign
-        ensures { result ≡ oppositeOf self }
+        ensures { result ≡ opposite_of self }
     {
         match self {
             Sign::Plus => Sign::Minus,
@@ -31,7 +31,7 @@ impl Sign {
 
     /// Whether the two signs are one.
     pub(crate) fn alike(self, other: Sign) -> bool
-        ensures { result ≡ likeOf self other }
+        ensures { result ≡ like_of self other }
     {
         match self {
             Sign::Plus => matches!(other, Sign::Plus),

@@ -1,6 +1,6 @@
 -- Refusals that tell no place. Assumes Refusals.
---   nowhere      the spot with every part absent
---   because c    the refusal for c that tells no place
+--   nowhere     the spot with every part absent
+--   because c   the refusal for c that tells no place
 use Rattle.std.specs.Prelude.{None}
 use Rattle.refusals.specs.declared.cause.Cause.{Cause}
 use Rattle.refusals.specs.declared.refusal.Spot.{Spot}

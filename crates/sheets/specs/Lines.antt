@@ -1,6 +1,6 @@
 -- The lines of a delay sheet as octets. Assumes the delays of a frame.
---   tabbed ns       the numbers ns in decimal, a tab before each
---   line_text l      a line: its letter, and its numbers, parted by tabs
+--   tabbed ns     the numbers ns in decimal, a tab before each
+--   line_text l   a line: its letter, and its numbers, parted by tabs
 use Rattle.std.specs.Prelude.{ℕ, List, [], ◌∷◌, ◌++◌, decimal}
 use Rattle.frames.specs.Delays.{microseconds}
 use Rattle.sheets.specs.declared.line.Line.{Line}

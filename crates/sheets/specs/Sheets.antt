@@ -1,11 +1,11 @@
 -- The delay sheet of a message. Assumes Lines, the delays of a frame, and what a message is.
---   text ls           the lines ls as octets, each ended by a line feed
+--   text ls            the lines ls as octets, each ended by a line feed
 --   frame_lines n f    the delays of frame n
 --   delays_from n fs   the delays of the frames fs, of which the first is frame n
 --   sheet_lines fs     all delays, and then the number of frames
 --   refused_line e     the line of a refusal: its number, and the frame and the cell of its spot
---   Sheet cs ls       ls is the sheet of the cells cs: the lines of the frames whose message they are; or the line of the refusal, which tells a frame and a cell
---   Printed cs bs     the octets bs are the sheet of the cells cs
+--   Sheet cs ls        ls is the sheet of the cells cs: the lines of the frames whose message they are; or the line of the refusal, which tells a frame and a cell
+--   Printed cs bs      the octets bs are the sheet of the cells cs
 use Rattle.std.specs.Prelude.{◌≡◌, ℕ, suc, ◌≤◌, List, [], ◌∷◌, ◌++◌, length, Some, Err}
 use Rattle.std.specs.Option.{unwrap_or}
 use Rattle.refusals.specs.declared.refusal.Refusal.{Refusal}

@@ -1,5 +1,5 @@
 -- What the code holds while it puts a frame. Assumes the bits of frames.
---   Indices f is     the house index of track t of subframe s of the frame f stands at 4s + t of is
+--   Indices f is   the house index of track t of subframe s of the frame f stands at 4s + t of is
 use Rattle.std.specs.Prelude.{◌≡◌, List, ℕ, ◌+◌, ◌*◌, ◌<◌, get_or}
 use Rattle.frames.specs.declared.frame.Frame.{Frame}
 use Rattle.frames.specs.Bits.{index}

@@ -3,7 +3,7 @@ ghost use Rattle.carriers.specs.Fields.{bits_of};
 ghost use Rattle.modes.specs.Plan.{part_width, plan, total};
 ghost use Rattle.frames.specs.Frames.{value as value_of};
 ghost use Rattle.frames.specs.Bits.{part_value, frame_bits};
-ghost use Rattle.messages.specs.Messages.{filler as fillerOf};
+ghost use Rattle.messages.specs.Messages.{filler as filler_of};
 ghost use Rattle.messages.specs.Written.{as_cells, frame_cells};
 ghost use Rattle.messages.specs.Indexed.{ended};
 ghost use Rattle.writers.specs.Putting.{Indices};
@@ -84,7 +84,7 @@ pub(crate) fn put_frame<C: WriteCarrier>(carrier: &mut C, frame: &Frame)
 
 /// How many cells there are up to the next multiple of eight.
 pub(crate) fn filler(at: usize) -> u32
-    ensures is { result ≡ fillerOf at }
+    ensures is { result ≡ filler_of at }
     ensures few { result < 8 }
 {
     ((8 - at % 8) % 8) as u32
@@ -92,7 +92,7 @@ pub(crate) fn filler(at: usize) -> u32
 
 /// Puts 1111, and zeros up to a multiple of eight.
 pub(crate) fn put_end<C: WriteCarrier>(carrier: &mut C)
-    requires { length (C.cells carrier.old) + 4 + fillerOf (length (C.cells carrier.old) + 4) ≤ C.room carrier.old }
+    requires { length (C.cells carrier.old) + 4 + filler_of (length (C.cells carrier.old) + 4) ≤ C.room carrier.old }
     ensures fixed { C.room carrier.new ≡ C.room carrier.old }
     ensures home { C.home carrier.new ≡ C.home carrier.old }
     ensures put { C.cells carrier.new ≡ ended (C.cells carrier.old) }

@@ -1,6 +1,6 @@
 ghost use Rattle.std.specs.Prelude.{◌≡◌, ◌≤◌, MatchResult};
 ghost use Rattle.refusals.specs.declared.cause.Cause.TheVariants.{NoSuchMode};
-ghost use Rattle.refusals.specs.Spots.{because as becauseOf};
+ghost use Rattle.refusals.specs.Spots.{because as because_of};
 ghost use Rattle.modes.specs.Modes.{number_of};
 ghost use Rattle.frames.specs.Frames.{Blank};
 
@@ -16,7 +16,7 @@ impl Frame {
     ///
     /// Refused where the number is not 0 to 8 (`Cause::NoSuchMode`).
     pub fn blank(number: u8) -> Result<Frame, Refusal>
-        ensures { MatchResult result (λ f. (number_of f.mode ≡ number) × Blank f) (λ e. (9 ≤ number) × (e ≡ becauseOf NoSuchMode)) }
+        ensures { MatchResult result (λ f. (number_of f.mode ≡ number) × Blank f) (λ e. (9 ≤ number) × (e ≡ because_of NoSuchMode)) }
     {
         match Mode::from_number(number) {
             Some(mode) => Ok(Frame::of(mode)),

@@ -1,7 +1,7 @@
 ghost use Rattle.std.specs.Prelude.{◌≡◌, ◌<◌, ◌≤◌, [], ◌∷◌};
 ghost use Rattle.modes.specs.declared.field.Field.TheVariants.{Delay as DelayOf};
 ghost use Rattle.frames.specs.Frames.{value as value_of};
-ghost use Rattle.frames.specs.Delays.{long_delay, short_base, step as step_of, long_before, delay as delayOf, microseconds as microsecondsOf};
+ghost use Rattle.frames.specs.Delays.{long_delay, short_base, step as step_of, long_before, delay as delay_of, microseconds as microseconds_of};
 
 use crate::frame::Frame;
 use modes::field::Field;
@@ -82,7 +82,7 @@ impl Frame {
     /// The delay of a subframe, in quarter samples.
     fn delay(&self, subframe: usize) -> u16
         requires { subframe < 4 }
-        ensures { result ≡ delayOf self.now subframe }
+        ensures { result ≡ delay_of self.now subframe }
     {
         let long = last_long(self.mode, subframe);
         let q = long_delay(self.mode.field_bits(Field::Delay(long)), self.held(long));
@@ -94,7 +94,7 @@ impl Frame {
 
     /// The delays of subframes 0 to 3, in quarter samples.
     pub fn delays(&self) -> [u16; 4]
-        ensures { result ≡ delayOf self.now 0 ∷ delayOf self.now 1 ∷ delayOf self.now 2 ∷ delayOf self.now 3 ∷ [] }
+        ensures { result ≡ delay_of self.now 0 ∷ delay_of self.now 1 ∷ delay_of self.now 2 ∷ delay_of self.now 3 ∷ [] }
     {
         [self.delay(0), self.delay(1), self.delay(2), self.delay(3)]
     }
@@ -103,7 +103,7 @@ impl Frame {
 /// A delay of `q` quarter samples in microseconds, cut off:
 /// `microseconds(136)` is 2656.
 pub fn microseconds(q: u16) -> u32
-    ensures { result ≡ microsecondsOf q }
+    ensures { result ≡ microseconds_of q }
 {
     q as u32 * 625 / 32
 }

@@ -1,6 +1,6 @@
 ghost use Rattle.std.specs.Prelude.{◌≡◌, ℕ, ◌<◌, length, pos, MatchResult, slice_index_or};
 ghost use Rattle.refusals.specs.declared.cause.Cause.TheVariants.{BufferTooShort};
-ghost use Rattle.refusals.specs.Spots.{because as becauseOf};
+ghost use Rattle.refusals.specs.Spots.{because as because_of};
 ghost use Rattle.frames.specs.Sound.{sample_of, Sounded};
 
 use crate::frame::Frame;
@@ -29,7 +29,7 @@ impl Frame {
     ///
     /// Refused where `out` is shorter than 256 (`Cause::BufferTooShort`).
     pub fn excitation(&self, out: &mut [i8]) -> Result<(), Refusal>
-        ensures { MatchResult result (λ _. Sounded self.now out.old out.new) (λ e. (length out.old < 256) × (e ≡ becauseOf BufferTooShort) × (out.new ≡ out.old)) }
+        ensures { MatchResult result (λ _. Sounded self.now out.old out.new) (λ e. (length out.old < 256) × (e ≡ because_of BufferTooShort) × (out.new ≡ out.old)) }
     {
         if out.len() < 256 {
             return Err(Refusal::because(Cause::BufferTooShort));

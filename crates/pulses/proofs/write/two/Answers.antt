@@ -1,6 +1,5 @@
 use Rattle.std.proofs.Common.{sym, ◌∙◌, arith}
 use Rattle.std.proofs.lemmas.Bool.{cond-true, cond-false}
-use Rattle.pulses.specs.Pulses.{alike}
 use Rattle.pulses.proofs.WriteSteps.{two_written}
 use Rattle.pulses.proofs.write.two.Goals as goal
 
