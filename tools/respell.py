@@ -6,7 +6,8 @@ usage: python3 tools/respell.py [FOLDER]      (default: crates)
 A definition, a lemma, a field or a constructor is in snake case; a type, or a fact, which is a type, in upper
 camel case. The names are read off specs/ and proofs/: what is declared there, but for the answers and invariants
 whose names the prover makes (their type is `goal.NAME`). Code keeps its names: only .antt files, and clauses and
-`ghost` lines of .rt files hold such names. Says which names fall together, and then changes nothing.
+`ghost` lines of .rt files hold such names. An alias that a `use` gives a definition is respelt in its file.
+Says which names fall together, and then changes nothing.
 """
 
 import os
@@ -15,6 +16,8 @@ import sys
 
 WORD = r"[\w'\-]"
 DECLARED = re.compile(r"^(?:(?:pub|abbrev|unfoldable) )*(?:(?:data|record|ruleset) )?([^\s:(){}]+)(?: [^:=]*)?:(?: |$)")
+ALIAS = re.compile(r"^(?:ghost )?use .*")
+ALIASED = re.compile(r" as ([a-z]+[A-Z]\w*)")
 MEMBER = re.compile(r"^  (?:pub )?([^\s:(){}]+) : ")
 
 # A lemma that would have the name of a definition ends in _lem; the others here would have another one's name.
@@ -68,6 +71,13 @@ def respelt(name):
     return "_".join(part if part.isupper() and len(part) == 1 else part.lower() for part in parts).replace("-", "_")
 
 
+def aliases(text):
+    """The text with its own aliases respelt."""
+    for name in {n for line in text.splitlines() if ALIAS.match(line) for n in ALIASED.findall(line)}:
+        text = re.sub(rf"(?<!{WORD}){name}(?!{WORD})", respelt(name), text)
+    return text
+
+
 def main():
     top = sys.argv[1] if len(sys.argv) > 1 else "crates"
     texts = {path: read(path) for path in files(top)}
@@ -82,11 +92,10 @@ def main():
         print(f"falls together: {name} ({', '.join(places[name])}) and {new} ({', '.join(places.get(new, ['another']))})")
     if together:
         return 1
-    if not renamed:
-        return 0
-    pattern = re.compile(rf"(?<!{WORD})(?:{'|'.join(sorted(map(re.escape, renamed), key=len, reverse=True))})(?!{WORD})")
+    words = "|".join(sorted(map(re.escape, renamed), key=len, reverse=True)) or "(?!)"
+    pattern = re.compile(rf"(?<!{WORD})(?:{words})(?!{WORD})")
     for path, text in texts.items():
-        turned = pattern.sub(lambda m: renamed[m.group(0)], text)
+        turned = aliases(pattern.sub(lambda m: renamed[m.group(0)], text))
         if turned != text:
             with open(path, "w", encoding="utf-8") as f:
                 f.write(turned)
