@@ -69,8 +69,16 @@ track_accepted how b s t fine has =
     let r = was_read how (pulses_in b.mode s t) (row b.mode).places (index_in b s t) p.0 p.1 in
     p.1 ∙ ap Ok r.is
 
-low_has : (m : Mode) (s t : ℕ) → 0 < part_width m (Low s t) → 0 < pulses_in m s t
+-- a part that has bits is of a track that has pulses
+pub low_has : (m : Mode) (s t : ℕ) → 0 < part_width m (Low s t) → 0 < pulses_in m s t
 low_has m s t h =
+    ⊎_elim
+    (λ has. has)
+    (λ no. let e : pulses_in m s t ≡ 0 = omega arith in absurd (let g = rw e at h in omega arith))
+    (cases_lt 0 (pulses_in m s t))
+
+pub high_has : (m : Mode) (s t : ℕ) → 0 < part_width m (High s t) → 0 < pulses_in m s t
+high_has m s t h =
     ⊎_elim
     (λ has. has)
     (λ no. let e : pulses_in m s t ≡ 0 = omega arith in absurd (let g = rw e at h in omega arith))

@@ -41,7 +41,7 @@ use Rattle.messages.specs.Contents.{held, index_in, Stands, Fine}
 use Rattle.messages.specs.Written.{as_cells, frame_cells, body}
 use Rattle.messages.proofs.Planned.{Away, plan_each}
 use Rattle.messages.proofs.Placing.{spelt, Good}
-use Rattle.messages.proofs.Building.{away_none}
+use Rattle.messages.proofs.Building.{away_none, low_has, high_has}
 use Rattle.messages.proofs.Accepted.{Sent, content_cells, body_of}
 
 abbrev pub voice : Part
@@ -72,20 +72,6 @@ index_read f s t has =
 
 cut_whole : (v w : ℕ) → joined (v / 2 ^ w) w (v % 2 ^ w) ≡ v
 cut_whole v w = ap (λ k. k + v % 2 ^ w) (mul_comm (v / 2 ^ w) (2 ^ w)) ∙ div-add-mod v (2 ^ w)
-
-pub low_has : (m : Mode) (s t : ℕ) → 0 < part_width m (Low s t) → 0 < pulses_in m s t
-low_has m s t h =
-    ⊎_elim
-    (λ has. has)
-    (λ no. let e : pulses_in m s t ≡ 0 = omega arith in absurd (let g = rw e at h in omega arith))
-    (cases_lt 0 (pulses_in m s t))
-
-high_has : (m : Mode) (s t : ℕ) → 0 < part_width m (High s t) → 0 < pulses_in m s t
-high_has m s t h =
-    ⊎_elim
-    (λ has. has)
-    (λ no. let e : pulses_in m s t ≡ 0 = omega arith in absurd (let g = rw e at h in omega arith))
-    (cases_lt 0 (pulses_in m s t))
 
 asked : (f : Frame) (p : Part) → 0 < part_width f.mode p → questioned Strict f.mode (sent_of f).values p (part_width f.mode p) (held (sent_of f) p) ≡ Ok tt
 unfolding questioned

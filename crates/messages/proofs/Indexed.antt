@@ -27,10 +27,10 @@ use Rattle.messages.specs.Contents.{held, index_in, Stands, Fine}
 use Rattle.messages.specs.Indexed.{By, cells_by}
 use Rattle.messages.proofs.Planned.{Away, plan_each}
 use Rattle.messages.proofs.Placing.{spelt, Good}
-use Rattle.messages.proofs.Building.{away_none}
+use Rattle.messages.proofs.Building.{away_none, low_has}
 use Rattle.messages.proofs.Standing.{record_of, stands}
 use Rattle.messages.proofs.Accepted.{Sent, content_cells}
-use Rattle.messages.proofs.Housed.{voice, at_place, single, low_has, spell_cells}
+use Rattle.messages.proofs.Housed.{voice, at_place, single, spell_cells}
 use Rattle.frames.proofs.Houses.{used_in}
 
 -- the frame with given values, as it stands in a message

@@ -1,28 +1,20 @@
 -- Where the tracks of parts stand, and how shifts and masks cut their indices.
-use Rattle.std.proofs.Common.{◌≡◌, ℕ, zero, suc, ◌-◌, ◌*◌, ◌%◌, ◌^◌, ◌<◌, ◌≤◌, bit_and, ap, ◌∙◌, ⊎_elim, arith, pow_mono}
+use Rattle.std.proofs.Common.{◌≡◌, ℕ, zero, suc, ◌-◌, ◌*◌, ◌%◌, ◌^◌, ◌<◌, ◌≤◌, bit_and, ap, ◌∙◌, arith, pow_mono}
 use Rattle.std.proofs.lemmas.Nat.{and_mask}
-use Rattle.std.proofs.lemmas.Bool.{cases_lt}
 use Rattle.pulses.specs.Rules.{bits}
 use Rattle.modes.specs.declared.mode.Mode.{Mode}
 use Rattle.modes.specs.declared.plan.Part.TheVariants.{High, Low}
 use Rattle.modes.specs.Modes.{row, pulses_in}
 use Rattle.modes.specs.Plan.{low_bits, part_width}
 use Rattle.modes.proofs.Modes.{by_mode, pulses_in_has}
+use Rattle.messages.proofs.Building.{low_has, high_has}
 
 -- a track with a part stands in the frame
 pub low_there : (m : Mode) (s t : ℕ) → 0 < part_width m (Low s t) → (s < 4) × (t < 4)
-low_there m s t h =
-    ⊎_elim
-    (λ has. pulses_in_has m s t has)
-    (λ no. let e : pulses_in m s t ≡ 0 = omega arith in absurd (let g = rw e at h in omega arith))
-    (cases_lt 0 (pulses_in m s t))
+low_there m s t h = pulses_in_has m s t (low_has m s t h)
 
 pub high_there : (m : Mode) (s t : ℕ) → 0 < part_width m (High s t) → (s < 4) × (t < 4)
-high_there m s t h =
-    ⊎_elim
-    (λ has. pulses_in_has m s t has)
-    (λ no. let e : pulses_in m s t ≡ 0 = omega arith in absurd (let g = rw e at h in omega arith))
-    (cases_lt 0 (pulses_in m s t))
+high_there m s t h = pulses_in_has m s t (high_has m s t h)
 
 -- an index has few bits
 places_few : (m : Mode) → (row m).places ≤ 5
