@@ -1,5 +1,5 @@
 -- Reading a row of cells, cell by cell. Assumes Tables, Spelt.
-use Rattle.std.proofs.Common.{◌≡◌, ℕ, zero, suc, ◌+◌, ◌-◌, ◌*◌, ◌%◌, ◌<◌, ◌≤◌, List, [], ◌∷◌, ◌++◌, length, Ok, Err, Result, sym, refl, ap, ◌∙◌, inl, inr, add-zero, mod-eq_of_lt, arith, pow_mono}
+use Rattle.std.proofs.Common.{◌≡◌, ℕ, zero, suc, ◌+◌, ◌*◌, ◌%◌, ◌<◌, ◌≤◌, List, [], ◌∷◌, ◌++◌, length, Ok, Err, Result, sym, refl, ap, ◌∙◌, inl, inr, add-zero, mod-eq_of_lt, arith, pow_mono}
 use Rattle.std.proofs.lemmas.Bool.{cases_lt}
 use Rattle.refusals.specs.declared.refusal.Refusal.{Refusal}
 use Rattle.carriers.specs.declared.bit.Bit.{Bit}
@@ -10,17 +10,6 @@ use Rattle.carriers.specs.FieldReading.{and_then, read_bits, low32}
 use Rattle.carriers.specs.ReadingLaws.{Faulty, CellAnswers, FieldAnswers, FieldRefusals}
 use Rattle.carriers.proofs.Tables.{cell_at_in, cell_at_past}
 use Rattle.carriers.proofs.Spelt.{by_cell, field_spelt, field_read}
-
--- one cell of a row, and the rest
-pub read_step : (cs : List Cell) (at n v : ℕ) → 0 < n → read_bits cs at n v ≡ and_then (cell_at cs at) (λ b. read_bits cs (at + 1) (n - 1) (2 * v + bit_value b))
-read_step cs at zero v h = absurd (omega arith)
-read_step cs at (suc n) v h = let e : suc n - 1 ≡ n = omega arith in rw e
-
-pub read_more : (cs : List Cell) (at n v : ℕ) (b : Bit) → 0 < n → Ok b ≡ cell_at cs at → read_bits cs (at + 1) (n - 1) (2 * v + bit_value b) ≡ read_bits cs at n v
-read_more cs at n v b h e = sym (read_step cs at n v h ∙ ap (λ (r : Result Bit Refusal). and_then r (λ b. read_bits cs (at + 1) (n - 1) (2 * v + bit_value b))) (sym e))
-
-pub read_stop : (cs : List Cell) (at n v : ℕ) (r : Refusal) → 0 < n → Err r ≡ cell_at cs at → Err r ≡ read_bits cs at n v
-read_stop cs at n v r h e = sym (read_step cs at n v h ∙ ap (λ (s : Result Bit Refusal). and_then s (λ b. read_bits cs (at + 1) (n - 1) (2 * v + bit_value b))) (sym e))
 
 -- a cell that is read stands within
 pub cell_within : (cs : List Cell) (at : ℕ) (b : Bit) → Ok b ≡ cell_at cs at → at < length cs
@@ -52,13 +41,12 @@ pub low_same : (cs : List Cell) (at w a c : ℕ) → a % 4294967296 ≡ c % 4294
 low_same cs at zero a c e = ap {B = Result ℕ Refusal} Ok e
 low_same cs at (suc w) a c e = low_then (cell_at cs at) _ _ (λ b. low_same cs (at + 1) w (2 * a + bit_value b) (2 * c + bit_value b) (omega arith))
 
--- the steps of a loop that keeps the low 32 bits
-pub low_more : (cs : List Cell) (at n v : ℕ) (b : Bit) → 0 < n → Ok b ≡ cell_at cs at → low32 (read_bits cs (at + 1) (n - 1) ((v * 2) % 4294967296 + bit_value b)) ≡ low32 (read_bits cs at n v)
-low_more cs at n v b h e = low_same cs (at + 1) (n - 1) ((v * 2) % 4294967296 + bit_value b) (2 * v + bit_value b) (omega arith) ∙ ap low32 (read_more cs at n v b h e)
-
-pub low_done : (cs : List Cell) (at n v : ℕ) → n ≤ 0 → v < 4294967296 → Ok v ≡ low32 (read_bits cs at n v)
-low_done cs at zero v h small = ap {B = Result ℕ Refusal} Ok (sym (mod-eq_of_lt small))
-low_done cs at (suc n) v h small = absurd (omega arith)
+-- the step of a loop that keeps the low 32 bits
+pub low_more : (cs : List Cell) (at next n m v : ℕ) (b : Bit) → next ≡ at + 1 → n ≡ suc m → Ok b ≡ cell_at cs at → low32 (read_bits cs next m ((v * 2) % 4294967296 + bit_value b)) ≡ low32 (read_bits cs at n v)
+low_more cs at next n m v b ahead left e =
+    rw (ahead, left)
+    (low_same cs (at + 1) m ((v * 2) % 4294967296 + bit_value b) (2 * v + bit_value b) (omega arith)
+    ∙ ap low32 (ap (λ (r : Result Bit Refusal). and_then r (λ d. read_bits cs (at + 1) m (2 * v + bit_value d))) e))
 
 -- a field of at most 32 cells is answered whole
 whole_answer : (r : Result ℕ Refusal) → ((v : ℕ) → r ≡ Ok v → v < 4294967296) → low32 r ≡ r

@@ -1,6 +1,5 @@
 pub mod Tables
 pub mod OctetCells
-pub mod WordCells
 pub mod Rows
 pub mod BitValues
 pub mod GoodCells

@@ -1,5 +1,5 @@
 -- What a write to one bit of an octet leaves. Assumes nothing.
-use Rattle.std.proofs.Common.{◌≡◌, ℕ, ◌+◌, ◌-◌, ◌*◌, ◌/◌, ◌%◌, ◌^◌, ◌<◌, ◌≤◌, cond, eqb, ◌≢◌, List, [], ◌∷◌, ◌++◌, length, get_or, set, sym, ap, ◌∙◌, ap₂, inl, inr, add-zero, mod-eq_of_lt, mul_comm, arith, get_or-set_other, get_or-set_same, pow-add, shr-shr, shr_lt}
+use Rattle.std.proofs.Common.{◌≡◌, ℕ, ◌+◌, ◌-◌, ◌*◌, ◌/◌, ◌%◌, ◌^◌, ◌<◌, ◌≤◌, cond, eqb, ◌≢◌, List, length, get_or, set, sym, ap, ◌∙◌, ap₂, inl, inr, add-zero, mod-eq_of_lt, mul_comm, arith, get_or-set_other, get_or-set_same, pow-add, shr-shr, shr_lt}
 use native.Mathlib.Nat.{mul-sub, mod-mod}
 use lib.Bits.{bit_and, bit_or, and_block, and_mask, and_high, or_block, or_step, or_zero_r}
 use lib.Pow.{high, low, field, mod-mod-pow}
@@ -8,11 +8,10 @@ use Rattle.std.proofs.lemmas.Bool.{cases_order, cases_eq}
 use Rattle.carriers.specs.declared.bit.Bit.{Bit}
 use Rattle.carriers.specs.declared.bit.Bit.TheVariants.{Zero, One}
 use Rattle.carriers.specs.Bits.{bit_of, bit_value}
-use Rattle.carriers.specs.Cells.{bit, table}
+use Rattle.carriers.specs.Cells.{bit}
 use Rattle.carriers.specs.Octets.{octet_at}
 use Rattle.carriers.specs.WithBit.{with_bit}
-use Rattle.carriers.proofs.BitValues.{value_below}
-use Rattle.carriers.proofs.Tables.{table_put}
+use Rattle.carriers.proofs.BitValues.{value_below, bit_last}
 
 module _ (o p : ℕ) (b : Bit) where
   with_high : with_bit o p b / 2 ^ p ≡ o / 2 ^ p / 2 * 2 + bit_value b
@@ -57,12 +56,8 @@ set_bit o p within =
     ∙ or_block p (o / 2 ^ p) 1 (o % 2 ^ p) 0 (mod_below o (2 ^ p) posp) posp
     ∙ ap₂ (λ (m n : ℕ). m * 2 ^ p + n) top (or_zero_r (o % 2 ^ p))
 
-bit_back : (b : Bit) (h : ℕ) → bit_of (h * 2 + bit_value b) ≡ b
-bit_back Zero h = let e : (h * 2 + 0) % 2 ≡ 0 = omega arith in rw e
-bit_back One h = let e : (h * 2 + 1) % 2 ≡ 1 = omega arith in rw e
-
 pub with_same : (o p : ℕ) (b : Bit) → bit_of (with_bit o p b / 2 ^ p) ≡ b
-with_same o p b = rw (with_high o p b) (bit_back b (o / 2 ^ p / 2))
+with_same o p b = rw (with_high o p b) (ap (λ (n : ℕ). bit_of (n + bit_value b)) (mul_comm (o / 2 ^ p / 2) 2) ∙ bit_last b (o / 2 ^ p / 2))
 
 -- a bit above
 with_above : (o p j : ℕ) (b : Bit) → with_bit o p b / 2 ^ (p + (1 + j)) ≡ o / 2 ^ (p + (1 + j))
@@ -86,28 +81,21 @@ with_other o p q b ne =
       | inr (inr l) ↦ let e : q ≡ p + (1 + (q - p - 1)) = omega arith in rw e (ap bit_of (with_above o p (q - p - 1) b))
     ]
 
-abbrev after : List ℕ → ℕ → Bit → List ℕ
-after os n b = set os (n / 8) (with_bit (get_or os (n / 8) 0) (7 - n % 8) b)
-
--- the place that is put holds the bit
-pub octet_here : (os : List ℕ) (n : ℕ) (b : Bit) → n < 8 * length os → octet_at (after os n b) n ≡ bit b
-octet_here os n b h =
-    let o : ℕ = get_or os (n / 8) 0 in
-    let within : n / 8 < length os = omega arith in
-    ap (λ (x : ℕ). bit (bit_of (x / 2 ^ (7 - n % 8)))) (get_or-set_same os (n / 8) (with_bit o (7 - n % 8) b) 0 within)
-    ∙ ap bit (with_same o (7 - n % 8) b)
+-- an octet in its place: the place that is put holds the bit
+pub octet_here : (os : List ℕ) (at octet : ℕ) (b : Bit) → octet ≡ with_bit (get_or os (at / 8) 0) (7 - at % 8) b → at < 8 * length os → octet_at (set os (at / 8) octet) at ≡ bit b
+octet_here os at octet b is h =
+    let within : at / 8 < length os = omega arith in
+    ap (λ (x : ℕ). bit (bit_of (x / 2 ^ (7 - at % 8)))) (get_or-set_same os (at / 8) octet 0 within ∙ is)
+    ∙ ap bit (with_same (get_or os (at / 8) 0) (7 - at % 8) b)
 
 -- and every other place what it held
-pub octet_others : (os : List ℕ) (n : ℕ) (b : Bit) → n < 8 * length os → (i : ℕ) → i ≢ n → octet_at (after os n b) i ≡ octet_at os i
-octet_others os n b h i other =
-    let o : ℕ = get_or os (n / 8) 0 in
-    let r : ℕ = with_bit o (7 - n % 8) b in
-    let within : n / 8 < length os = omega arith in
-    let here : get_or (set os (n / 8) r) (n / 8) 0 ≡ r = get_or-set_same os (n / 8) r 0 within in
-    elim (cases_eq (i / 8) (n / 8)) [
-      | inl e ↦ let ne : 7 - i % 8 ≢ 7 - n % 8 = λ p. other (let q : i ≡ n = omega arith in q) in rw e (rw here (ap bit (with_other o (7 - n % 8) (7 - i % 8) b ne)))
-      | inr ne ↦ ap (λ (x : ℕ). bit (bit_of (x / 2 ^ (7 - i % 8)))) (get_or-set_other os (n / 8) (i / 8) r 0 ne)
+pub octet_others : (os : List ℕ) (at octet i : ℕ) (b : Bit) → octet ≡ with_bit (get_or os (at / 8) 0) (7 - at % 8) b → at < 8 * length os → i ≢ at → octet_at (set os (at / 8) octet) i ≡ octet_at os i
+octet_others os at octet i b is h other =
+    let within : at / 8 < length os = omega arith in
+    let here : get_or (set os (at / 8) octet) (at / 8) 0 ≡ octet = get_or-set_same os (at / 8) octet 0 within in
+    elim (cases_eq (i / 8) (at / 8)) [
+      | inl e ↦
+          let ne : 7 - i % 8 ≢ 7 - at % 8 = λ p. other (let q : i ≡ at = omega arith in q) in
+          rw e (ap (λ (x : ℕ). bit (bit_of (x / 2 ^ (7 - i % 8)))) (here ∙ is) ∙ ap bit (with_other (get_or os (at / 8) 0) (7 - at % 8) (7 - i % 8) b ne))
+      | inr ne ↦ ap (λ (x : ℕ). bit (bit_of (x / 2 ^ (7 - i % 8)))) (get_or-set_other os (at / 8) (i / 8) octet 0 ne)
     ]
-
-pub octet_put : (os : List ℕ) (n : ℕ) (b : Bit) → n < 8 * length os → table (octet_at (after os n b)) (n + 1) ≡ table (octet_at os) n ++ bit b ∷ []
-octet_put os n b h = table_put (octet_at os) (octet_at (after os n b)) n (bit b) (λ i l. octet_others os n b h i (omega arith)) (octet_here os n b h)

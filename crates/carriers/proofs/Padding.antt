@@ -3,7 +3,7 @@ use Rattle.std.proofs.Common.{◌≡◌, ℕ, zero, suc, ◌+◌, ◌-◌, ◌*�
 use lib.ListN.{length-replicate}
 use lib.Pow.{shl-shr}
 use lib.Seq.{drop-append-le}
-use Rattle.std.proofs.lemmas.List.{append-nil}
+use Rattle.std.proofs.lemmas.List.{append-nil, get_or_append_left}
 use Rattle.std.proofs.lemmas.Bool.{cases_lt}
 use Rattle.carriers.specs.declared.bit.Bit.TheVariants.{Zero, One}
 use Rattle.carriers.specs.Bits.{bit_of}
@@ -107,3 +107,12 @@ pub octet_more : (out : List ℕ) (cs : List Cell) (i r : ℕ) → i < length ou
 octet_more out cs i r h front here =
     let e : 8 * (i + 1) ≡ 8 * i + 8 = omega arith in
     rw e (octet_set out i r h ∙ ap₂ (λ (x y : List Cell). x ++ y) front here ∙ sym (take-add (8 * i) 8 cs))
+
+-- octets that were filled up, before those that were left alone
+octets_front : (xs ys : List ℕ) (n : ℕ) → n ≤ length xs → table (octet_at (xs ++ ys)) (8 * n) ≡ table (octet_at xs) (8 * n)
+octets_front xs ys n h = table_same (octet_at (xs ++ ys)) (octet_at xs) (8 * n) (λ j l. ap (λ x. bit (bit_of (x / 2 ^ (7 - j % 8)))) (get_or_append_left xs ys 0 (j / 8) (omega arith)))
+
+pub octets_filled : (cs : List Cell) (xs ys : List ℕ) (n i : ℕ) → n ≡ octet_count cs → n ≡ i → length xs ≡ n → table (octet_at xs) (8 * i) ≡ take (8 * i) (padded cs) → table (octet_at (xs ++ ys)) (8 * n) ≡ padded cs
+octets_filled cs xs ys n i count all long front =
+    let whole = padded_length cs in
+    octets_front xs ys n (omega arith) ∙ (rw (← all) at front) ∙ take_all (8 * n) (padded cs) (omega arith)

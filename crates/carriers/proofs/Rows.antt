@@ -2,7 +2,7 @@
 use Rattle.std.proofs.Common.{◌≡◌, ℕ, zero, suc, ◌+◌, ◌-◌, ◌/◌, ◌%◌, ◌^◌, ◌<◌, ◌≤◌, cond, eqb, List, [], ◌∷◌, ◌++◌, length, sym, refl, ap, ◌∙◌, ap₂, append_assoc, arith, pow_mono}
 use native.Mathlib.Nat.{div-eq_of_lt}
 use lib.Pow.{field, mod-mod-pow}
-use Rattle.std.proofs.lemmas.List.{length_push}
+use Rattle.std.proofs.lemmas.List.{append-nil, length_push}
 use Rattle.carriers.specs.declared.bit.Bit.{Bit}
 use Rattle.carriers.specs.declared.bit.Bit.TheVariants.{Zero, One}
 use Rattle.carriers.specs.Bits.{bit_of}
@@ -27,6 +27,11 @@ pub row_more : (cs ds all : List Cell) (n v room : ℕ) (b : Bit) → 0 < n → 
 row_more cs ds all n v room b h is e fits whole =
     let longer : length ds ≡ length cs + 1 = ap length e ∙ length_push cs (bit b) in
     (omega arith, bits_put cs ds n v h (e ∙ ap (λ (x : Bit). cs ++ bit x ∷ []) is) ∙ whole)
+
+-- at its end
+pub row_done : (cs all : List Cell) (n v : ℕ) → n ≤ 0 → cs ++ bits_of n v ≡ all → cs ≡ all
+row_done cs all zero v h e = sym (append-nil cs) ∙ e
+row_done cs all (suc n) v h e = absurd (omega arith)
 
 -- a number has zeros above its own bits
 pub zero_above : (v w p : ℕ) → v < 2 ^ w → w ≤ p → bit_of (v / 2 ^ p) ≡ Zero

@@ -2,8 +2,10 @@ pub mod Bits
 pub mod Cells
 pub mod Reading
 pub mod Writing
+pub mod Memory
 pub mod Octets
 pub mod Words
+pub mod Units
 pub mod WithBit
 pub mod Fields
 pub mod FieldReading

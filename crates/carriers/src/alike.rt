@@ -12,6 +12,7 @@ use refusals::refusal::Refusal;
 ///
 /// Refused with `CarrierFull` where either has room for fewer than `width`
 /// cells; then neither is touched.
+#[tactic(auto, using(crate::proofs::Runs::same_bits_same_cells, crate::proofs::Lent::alike_end, crate::proofs::Tables::table_fresh))]
 pub fn write_alike(
     octets: &mut [u8],
     words: &mut [u16],
@@ -21,18 +22,11 @@ pub fn write_alike(
     ensures alike { Alike value width octets.old words.old result octets.new words.new }
     ensures law { SameBitsSameCells }
 {
-    write_both(octets, words, value, width)
-}
-
-fn write_both(octets: &mut [u8], words: &mut [u16], value: u32, width: u32) -> Result<(), Refusal>
-    ensures alike { Alike value width octets.old words.old result octets.new words.new }
-    ensures law { SameBitsSameCells }
-{
     let mut packed = OctetWriter::new(octets);
     let mut soft = WordWriter::new(words);
     // asked first, so that a refusal touches neither
     if soft.capacity() < width as usize {
-        return Err(Refusal::because(Cause::CarrierFull));
+        return Err(Cause::CarrierFull.into());
     }
     put_bits(&mut packed, value, width)?;
     put_bits(&mut soft, value, width)

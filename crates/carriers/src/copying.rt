@@ -1,8 +1,6 @@
-ghost use Rattle.std.specs.Prelude.{◌≡◌, ◌*◌, ◌<◌, ◌≤◌, length, take, drop, Ok};
-ghost use Rattle.carriers.specs.Cells.{table};
-ghost use Rattle.carriers.specs.Octets.{octet_at};
+ghost use Rattle.std.specs.Prelude.{◌≡◌, ◌*◌, ◌<◌, length, take, drop, Ok, IsOk, IfOk};
 ghost use Rattle.carriers.specs.Fields.{bits_of};
-ghost use Rattle.carriers.specs.Copying.{all_bits, octet_count, padded, Copied, CheckAnswers};
+ghost use Rattle.carriers.specs.Copying.{all_bits, padded, Copied, CheckAnswers};
 
 use crate::fields::read_bits;
 use crate::traits::ReadCarrier;
@@ -18,6 +16,9 @@ use refusals::refusal::Refusal;
 /// Refused as the first cell that is not a bit is, with `BadCell`; then with
 /// `BufferTooShort` where `out` has too few octets. A refusal leaves `out` as
 /// it was.
+// The memory is the caller's, and the answer how much of it is used: nothing
+// here allocates.
+#[tactic(auto, using(crate::proofs::Tables::table_none, crate::proofs::Checks::check_answers))]
 pub fn copy_octets<R: ReadCarrier>(carrier: &R, out: &mut [u8]) -> Result<usize, Refusal>
     ensures copied { Copied (R.cells carrier.now) out.old result out.new }
     ensures law { CheckAnswers }
@@ -25,13 +26,19 @@ pub fn copy_octets<R: ReadCarrier>(carrier: &R, out: &mut [u8]) -> Result<usize,
     check_cells(carrier)?;
     let octets = carrier.len().div_ceil(8);
     if out.len() < octets {
-        return Err(Refusal::because(Cause::BufferTooShort));
+        return Err(Cause::BufferTooShort.into());
     }
-    fill(carrier, octets, out);
+    for (i, octet) in out[..octets].iter_mut().enumerate() {
+        // never refused: each cell is a bit
+        *octet = octet_at(carrier, i)?;
+    }
     Ok(octets)
 }
 
-// Whether every cell is a bit.
+/// Whether every cell is a bit.
+// Asked of all before any octet is written, so that a refusal leaves the buffer
+// as it was; by its place, since that is how a carrier gives a cell.
+#[tactic(auto, using(crate::proofs::Checks::check_stop, crate::proofs::Checks::check_all))]
 fn check_cells<R: ReadCarrier>(carrier: &R) -> Result<(), Refusal>
     ensures { result ≡ all_bits (R.cells carrier.now) }
 {
@@ -41,29 +48,14 @@ fn check_cells<R: ReadCarrier>(carrier: &R) -> Result<(), Refusal>
     Ok(())
 }
 
-// Writes the octets, of which there are as many as the cells take.
-fn fill<R: ReadCarrier>(carrier: &R, octets: usize, out: &mut [u8])
-    requires bits { all_bits (R.cells carrier.now) ≡ Ok tt }
-    requires count { octets ≡ octet_count (R.cells carrier.now) }
-    requires room { octets ≤ length out.old }
-    ensures filled { table (octet_at out.new) (8 * octets) ≡ padded (R.cells carrier.now) }
-    ensures beyond { drop octets out.new ≡ drop octets out.old }
-{
-    for i in 0..octets {
-        out[i] = octet_at(carrier, i);
-    }
-}
-
-// Octet `i` of the cells, filled up with zeros where they end.
-fn octet_at<R: ReadCarrier>(carrier: &R, i: usize) -> u8
-    requires bits { all_bits (R.cells carrier.now) ≡ Ok tt }
-    requires within { 8 * i < length (R.cells carrier.now) }
-    ensures { bits_of 8 result ≡ take 8 (drop (8 * i) (padded (R.cells carrier.now))) }
+/// Octet `i` of the cells, filled up with zeros where they end.
+#[tactic(auto, using(crate::proofs::Padding::octet_fits, crate::proofs::Padding::octet_read, crate::proofs::Checks::check_field))]
+fn octet_at<R: ReadCarrier>(carrier: &R, i: usize) -> Result<u8, Refusal>
+    requires { 8 * i < length (R.cells carrier.now) }
+    ensures octet { IfOk result (λ octet. bits_of 8 octet ≡ take 8 (drop (8 * i) (padded (R.cells carrier.now)))) }
+    ensures read { all_bits (R.cells carrier.now) ≡ Ok tt → IsOk result }
 {
     let width = (carrier.len() - 8 * i).min(8) as u32;
-    match read_bits(carrier, 8 * i, width) {
-        Ok(value) => (value << (8 - width)) as u8,
-        // never met, since every cell is a bit
-        Err(_) => 0,
-    }
+    let value = read_bits(carrier, 8 * i, width)?;
+    Ok((value << (8 - width)) as u8)
 }

@@ -1,5 +1,4 @@
-ghost use Rattle.std.specs.Prelude.{◌≡◌, ℕ, ◌/◌, ◌%◌, ◌^◌, ◌≤◌, length, Ok, OnOk};
-ghost use Rattle.carriers.specs.Bits.{bit_of};
+ghost use Rattle.std.specs.Prelude.{◌≡◌, ℕ, ◌%◌, ◌^◌, ◌≤◌, length, Ok, OnOk};
 ghost use Rattle.carriers.specs.Writing.{Untouched};
 ghost use Rattle.carriers.specs.Fields.{PutBits};
 ghost use Rattle.carriers.specs.FieldReading.{read_bits, low32};
@@ -17,6 +16,7 @@ use refusals::refusal::Refusal;
 /// nothing is put. Above its 32 bits a value has zeros.
 ///
 /// `put_bits(&mut carrier, 5, 4)` puts 0, 1, 0, 1.
+#[tactic(auto, using(crate::proofs::Runs::fields_read_back))]
 pub fn put_bits<C: WriteCarrier>(carrier: &mut C, value: u32, width: u32) -> Result<(), Refusal>
     ensures fixed { C.room carrier.new ≡ C.room carrier.old }
     ensures home { C.home carrier.new ≡ C.home carrier.old }
@@ -26,7 +26,15 @@ pub fn put_bits<C: WriteCarrier>(carrier: &mut C, value: u32, width: u32) -> Res
     ensures kept { (at w v : ℕ) → read_bits (C.cells carrier.old) at w 0 ≡ Ok v → read_bits (C.cells carrier.new) at w 0 ≡ Ok v }
     ensures all { FieldsReadBack }
 {
-    put_field(carrier, value, width)
+    // asked first, so that a refusal leaves no part of the field
+    if carrier.len() + width as usize > carrier.capacity() {
+        return Err(Cause::CarrierFull.into());
+    }
+    for place in (0..width).rev() {
+        // never refused: there is room
+        carrier.put(Bit::at(value, place))?;
+    }
+    Ok(())
 }
 
 /// The number that `width` cells from place `at` on spell, most significant
@@ -37,6 +45,7 @@ pub fn put_bits<C: WriteCarrier>(carrier: &mut C, value: u32, width: u32) -> Res
 /// 32 are answered.
 ///
 /// Of the cells 0, 1, 0, 1, `read_bits(&carrier, 1, 3)` is 5.
+#[tactic(auto, using(crate::proofs::FieldCells::whole))]
 pub fn read_bits<R: ReadCarrier>(carrier: &R, at: usize, width: u32) -> Result<u32, Refusal>
     ensures value { result ≡ low32 (read_bits (R.cells carrier.now) at width 0) }
     ensures whole { width ≤ 32 → result ≡ read_bits (R.cells carrier.now) at width 0 }
@@ -44,49 +53,9 @@ pub fn read_bits<R: ReadCarrier>(carrier: &R, at: usize, width: u32) -> Result<u
     ensures field { FieldAnswers }
     ensures refused { FieldRefusals }
 {
-    read_field(carrier, at, width)
-}
-
-// The bit of weight 2^place: above its 32 bits a value has zeros.
-fn bit_of(value: u32, place: u32) -> Bit
-    ensures { result ≡ bit_of (value / 2 ^ place) }
-{
-    if place < 32 {
-        Bit::last_of(value >> place)
-    } else {
-        Bit::Zero
-    }
-}
-
-fn put_field<C: WriteCarrier>(carrier: &mut C, value: u32, width: u32) -> Result<(), Refusal>
-    ensures fixed { C.room carrier.new ≡ C.room carrier.old }
-    ensures home { C.home carrier.new ≡ C.home carrier.old }
-    ensures put { PutBits (C.cells carrier.old) (C.room carrier.old) value width result (C.cells carrier.new) }
-    ensures same { Untouched result carrier.old carrier.new }
-{
-    // asked first, so that a refusal leaves no part of the field
-    if carrier.len() + width as usize > carrier.capacity() {
-        return Err(Refusal::because(Cause::CarrierFull));
-    }
-    let mut left = width;
-    while left > 0 {
-        left -= 1;
-        carrier.put(bit_of(value, left))?;
-    }
-    Ok(())
-}
-
-fn read_field<R: ReadCarrier>(carrier: &R, at: usize, width: u32) -> Result<u32, Refusal>
-    ensures { result ≡ low32 (read_bits (R.cells carrier.now) at width 0) }
-{
     let mut value = 0u32;
-    let mut place = at;
-    let mut left = width;
-    while left > 0 {
-        let bit = carrier.cell(place)?;
-        value = (value << 1) + bit.value();
-        place += 1;
-        left -= 1;
+    for i in 0..width as usize {
+        value = (value << 1) + u32::from(carrier.cell(at + i)?);
     }
     Ok(value)
 }

@@ -9,11 +9,17 @@
 pub mod bit;
 /// What every carrier promises, for reading and for writing.
 pub mod traits;
-/// The four carriers on memory: octets and words, to read and to write.
+/// What memory is made of.
+pub mod units;
+/// The carriers on memory, to read and to write.
 pub mod memory;
-/// Carriers with eight cells to an octet.
+/// Reading memory.
+pub mod reader;
+/// Writing memory.
+pub mod writer;
+/// Octets as memory: eight cells to an octet.
 pub mod octets;
-/// Carriers with one cell to a 16-bit word.
+/// Words as memory: one cell to a 16-bit word.
 pub mod words;
 /// Numbers as rows of cells.
 pub mod fields;

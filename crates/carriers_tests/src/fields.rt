@@ -1,20 +1,13 @@
 #[cfg(test)]
 mod tests {
+    use crate::answers::refused;
     use carriers::alike::write_alike;
     use carriers::copying::copy_octets;
     use carriers::fields::{put_bits, read_bits};
     use carriers::memory::{OctetWriter, WordReader, WordWriter};
     use carriers::traits::ReadCarrier;
-    use refusals::refusal::Refusal;
+    use refusals::cause::Cause;
     use std::test::Fail;
-
-    // The number of a refusal, and 0 for none.
-    fn number<T: Drop>(answer: Result<T, Refusal>) -> u8 {
-        match answer {
-            Ok(_) => 0,
-            Err(refusal) => refusal.cause.number(),
-        }
-    }
 
     #[test]
     fn fields_read_back(rt: HostRuntime) -> Result<(), Fail> {
@@ -38,7 +31,10 @@ mod tests {
         put_bits(&mut writer, 0x8000_0001, 40)?;
         assert_eq!(rt; read_bits(&writer, 0, 8)?, 0);
         assert_eq!(rt; read_bits(&writer, 0, 40)?, 0x8000_0001);
-        assert_eq!(rt; number(read_bits(&writer, 0, u32::MAX)), 14);
+        assert_eq!(rt;
+            read_bits(&writer, 0, u32::MAX),
+            refused(Cause::CellMissing)
+        );
         Ok(())
     }
 
@@ -47,8 +43,11 @@ mod tests {
         let mut memory = [0u8; 1];
         let mut writer = OctetWriter::new(&mut memory);
         put_bits(&mut writer, 1, 3)?;
-        assert_eq!(rt; number(put_bits(&mut writer, 0x3F, 6)), 11);
-        assert_eq!(rt; number(put_bits(&mut writer, 0, u32::MAX)), 11);
+        assert_eq!(rt; put_bits(&mut writer, 0x3F, 6), refused(Cause::CarrierFull));
+        assert_eq!(rt;
+            put_bits(&mut writer, 0, u32::MAX),
+            refused(Cause::CarrierFull)
+        );
         assert_eq!(rt; writer.len(), 3);
         put_bits(&mut writer, 0x1F, 5)?;
         assert!(rt; memory[0] == 0x3F);
@@ -61,7 +60,10 @@ mod tests {
         let mut writer = WordWriter::new(&mut memory);
         put_bits(&mut writer, 0xABC, 12)?;
         let mut short = [7u8];
-        assert_eq!(rt; number(copy_octets(&writer, &mut short)), 17);
+        assert_eq!(rt;
+            copy_octets(&writer, &mut short),
+            refused(Cause::BufferTooShort)
+        );
         assert!(rt; short[0] == 7);
         let mut out = [1u8, 2, 3];
         assert_eq!(rt; copy_octets(&writer, &mut out)?, 2);
@@ -74,9 +76,9 @@ mod tests {
         let words = [0x0081u16, 0x0080];
         let reader = WordReader::new(&words);
         let mut none = [0u8; 0];
-        assert_eq!(rt; number(copy_octets(&reader, &mut none)), 15);
+        assert_eq!(rt; copy_octets(&reader, &mut none), refused(Cause::BadCell));
         let mut out = [9u8];
-        assert_eq!(rt; number(copy_octets(&reader, &mut out)), 15);
+        assert_eq!(rt; copy_octets(&reader, &mut out), refused(Cause::BadCell));
         assert!(rt; out[0] == 9);
     }
 
@@ -99,7 +101,10 @@ mod tests {
         assert!(rt;
             words[0] == 0x0081 && words[1] == 0x007F && words[2] == 0x0081 && words[3] == 0
         );
-        assert_eq!(rt; number(write_alike(&mut octets, &mut words, 0, 5)), 11);
+        assert_eq!(rt;
+            write_alike(&mut octets, &mut words, 0, 5),
+            refused(Cause::CarrierFull)
+        );
         assert!(rt; octets[0] == 0b1010_0000);
         Ok(())
     }

@@ -1,38 +1,23 @@
 #[cfg(test)]
 mod tests {
+    use crate::answers::refused;
     use carriers::bit::Bit;
     use carriers::memory::{OctetReader, OctetWriter};
     use carriers::traits::{ReadCarrier, WriteCarrier};
-    use refusals::refusal::Refusal;
+    use refusals::cause::Cause;
     use std::test::Fail;
-
-    // The number of a refusal, and 0 for none.
-    fn number<T: Drop>(answer: Result<T, Refusal>) -> u8 {
-        match answer {
-            Ok(_) => 0,
-            Err(refusal) => refusal.cause.number(),
-        }
-    }
-
-    // The number of a bit, or else of the refusal.
-    fn told(answer: Result<Bit, Refusal>) -> u32 {
-        match answer {
-            Ok(bit) => bit.value(),
-            Err(refusal) => refusal.cause.number() as u32,
-        }
-    }
 
     #[test]
     fn most_significant_first(rt: HostRuntime) {
         let octets = [0b0100_0001u8, 0b1000_0000];
         let reader = OctetReader::new(&octets);
         assert_eq!(rt; reader.len(), 16);
-        assert_eq!(rt; told(reader.cell(0)), 0);
-        assert_eq!(rt; told(reader.cell(1)), 1);
-        assert_eq!(rt; told(reader.cell(7)), 1);
-        assert_eq!(rt; told(reader.cell(8)), 1);
-        assert_eq!(rt; told(reader.cell(15)), 0);
-        assert_eq!(rt; told(reader.cell(16)), 14);
+        assert_eq!(rt; reader.cell(0), Ok(Bit::Zero));
+        assert_eq!(rt; reader.cell(1), Ok(Bit::One));
+        assert_eq!(rt; reader.cell(7), Ok(Bit::One));
+        assert_eq!(rt; reader.cell(8), Ok(Bit::One));
+        assert_eq!(rt; reader.cell(15), Ok(Bit::Zero));
+        assert_eq!(rt; reader.cell(16), refused(Cause::CellMissing));
     }
 
     #[test]
@@ -46,8 +31,8 @@ mod tests {
         writer.put(Bit::One)?;
         writer.put(Bit::One)?;
         assert_eq!(rt; writer.len(), 9);
-        assert_eq!(rt; told(writer.cell(8)), 1);
-        assert_eq!(rt; told(writer.cell(9)), 14);
+        assert_eq!(rt; writer.cell(8), Ok(Bit::One));
+        assert_eq!(rt; writer.cell(9), refused(Cause::CellMissing));
         assert!(rt; memory[0] == 0x01 && memory[1] == 0xFF);
         Ok(())
     }
@@ -57,10 +42,10 @@ mod tests {
         let mut memory = [0u8; 0];
         let mut writer = OctetWriter::new(&mut memory);
         assert_eq!(rt; writer.capacity(), 0);
-        assert_eq!(rt; number(writer.put(Bit::One)), 11);
+        assert_eq!(rt; writer.put(Bit::One), refused(Cause::CarrierFull));
         assert_eq!(rt; writer.len(), 0);
-        assert_eq!(rt; number(writer.cut(0)), 0);
-        assert_eq!(rt; number(writer.cut(1)), 14);
+        assert_eq!(rt; writer.cut(0), Ok(()));
+        assert_eq!(rt; writer.cut(1), refused(Cause::CellMissing));
     }
 
     #[test]
@@ -70,7 +55,7 @@ mod tests {
         for _ in 0..8 {
             writer.put(Bit::One)?;
         }
-        assert_eq!(rt; number(writer.put(Bit::Zero)), 11);
+        assert_eq!(rt; writer.put(Bit::Zero), refused(Cause::CarrierFull));
         assert_eq!(rt; writer.len(), 8);
         assert!(rt; memory[0] == 0xFF);
         Ok(())
@@ -83,13 +68,13 @@ mod tests {
         writer.put(Bit::Zero)?;
         writer.put(Bit::Zero)?;
         writer.put(Bit::One)?;
-        assert_eq!(rt; number(writer.cut(4)), 14);
+        assert_eq!(rt; writer.cut(4), refused(Cause::CellMissing));
         writer.cut(1)?;
         assert_eq!(rt; writer.len(), 1);
-        assert_eq!(rt; told(writer.cell(1)), 14);
+        assert_eq!(rt; writer.cell(1), refused(Cause::CellMissing));
         writer.put(Bit::One)?;
-        assert_eq!(rt; told(writer.cell(0)), 0);
-        assert_eq!(rt; told(writer.cell(1)), 1);
+        assert_eq!(rt; writer.cell(0), Ok(Bit::Zero));
+        assert_eq!(rt; writer.cell(1), Ok(Bit::One));
         assert!(rt; memory[0] == 0x7F);
         Ok(())
     }
@@ -112,8 +97,8 @@ mod tests {
         assert_eq!(rt; OctetReader::new(&octets[..37_500]).len(), 300_000);
         let reader = OctetReader::new(&octets);
         assert_eq!(rt; reader.len(), 300_000);
-        assert_eq!(rt; told(reader.cell(299_999)), 1);
-        assert_eq!(rt; told(reader.cell(300_000)), 14);
+        assert_eq!(rt; reader.cell(299_999), Ok(Bit::One));
+        assert_eq!(rt; reader.cell(300_000), refused(Cause::CellMissing));
     }
 
     #[test]
@@ -124,7 +109,7 @@ mod tests {
         for _ in 0..300_000 {
             writer.put(Bit::One)?;
         }
-        assert_eq!(rt; number(writer.put(Bit::One)), 11);
+        assert_eq!(rt; writer.put(Bit::One), refused(Cause::CarrierFull));
         assert_eq!(rt; writer.len(), 300_000);
         assert!(rt; memory[37_499] == 0xFF && memory[37_500] == 0x00);
         Ok(())

@@ -1,40 +1,25 @@
 #[cfg(test)]
 mod tests {
+    use crate::answers::refused;
     use carriers::bit::Bit;
     use carriers::fields::read_bits;
     use carriers::memory::{WordReader, WordWriter};
     use carriers::traits::{ReadCarrier, WriteCarrier};
-    use refusals::refusal::Refusal;
+    use refusals::cause::Cause;
     use std::test::Fail;
-
-    // The number of a refusal, and 0 for none.
-    fn number<T: Drop>(answer: Result<T, Refusal>) -> u8 {
-        match answer {
-            Ok(_) => 0,
-            Err(refusal) => refusal.cause.number(),
-        }
-    }
-
-    // The number of a bit, or else of the refusal.
-    fn told(answer: Result<Bit, Refusal>) -> u32 {
-        match answer {
-            Ok(bit) => bit.value(),
-            Err(refusal) => refusal.cause.number() as u32,
-        }
-    }
 
     #[test]
     fn soft_bits(rt: HostRuntime) {
         let words = [0x007Fu16, 0x0081, 0x0080, 0x7F00, 0xFFFF, 0x0000];
         let reader = WordReader::new(&words);
         assert_eq!(rt; reader.len(), 6);
-        assert_eq!(rt; told(reader.cell(0)), 0);
-        assert_eq!(rt; told(reader.cell(1)), 1);
-        assert_eq!(rt; told(reader.cell(2)), 15);
-        assert_eq!(rt; told(reader.cell(3)), 15);
-        assert_eq!(rt; told(reader.cell(4)), 15);
-        assert_eq!(rt; told(reader.cell(5)), 15);
-        assert_eq!(rt; told(reader.cell(6)), 14);
+        assert_eq!(rt; reader.cell(0), Ok(Bit::Zero));
+        assert_eq!(rt; reader.cell(1), Ok(Bit::One));
+        assert_eq!(rt; reader.cell(2), refused(Cause::BadCell));
+        assert_eq!(rt; reader.cell(3), refused(Cause::BadCell));
+        assert_eq!(rt; reader.cell(4), refused(Cause::BadCell));
+        assert_eq!(rt; reader.cell(5), refused(Cause::BadCell));
+        assert_eq!(rt; reader.cell(6), refused(Cause::CellMissing));
     }
 
     #[test]
@@ -42,8 +27,8 @@ mod tests {
         let words = [0x0081u16, 0x0080, 0x0081];
         let reader = WordReader::new(&words);
         assert_eq!(rt; read_bits(&reader, 0, 1)?, 1);
-        assert_eq!(rt; number(read_bits(&reader, 0, 4)), 15);
-        assert_eq!(rt; number(read_bits(&reader, 2, 2)), 14);
+        assert_eq!(rt; read_bits(&reader, 0, 4), refused(Cause::BadCell));
+        assert_eq!(rt; read_bits(&reader, 2, 2), refused(Cause::CellMissing));
         assert_eq!(rt; read_bits(&reader, 1, 0)?, 0);
         Ok(())
     }
@@ -54,7 +39,7 @@ mod tests {
         let mut writer = WordWriter::new(&mut memory);
         assert_eq!(rt; writer.capacity(), 1);
         writer.put(Bit::One)?;
-        assert_eq!(rt; number(writer.put(Bit::One)), 11);
+        assert_eq!(rt; writer.put(Bit::One), refused(Cause::CarrierFull));
         assert!(rt; memory[0] == 0x0081);
         Ok(())
     }
@@ -66,7 +51,7 @@ mod tests {
         for _ in 0..7 {
             writer.put(Bit::Zero)?;
         }
-        assert_eq!(rt; number(writer.put(Bit::Zero)), 11);
+        assert_eq!(rt; writer.put(Bit::Zero), refused(Cause::CarrierFull));
         assert_eq!(rt; writer.len(), 7);
         assert!(rt; memory[6] == 0x007F);
         Ok(())
@@ -78,7 +63,7 @@ mod tests {
         let mut writer = WordWriter::new(&mut memory);
         writer.put(Bit::One)?;
         writer.put(Bit::One)?;
-        assert_eq!(rt; number(writer.cut(3)), 14);
+        assert_eq!(rt; writer.cut(3), refused(Cause::CellMissing));
         writer.cut(0)?;
         writer.put(Bit::Zero)?;
         assert_eq!(rt; writer.len(), 1);
@@ -93,8 +78,8 @@ mod tests {
         assert_eq!(rt; WordReader::new(&words[..300_000]).len(), 300_000);
         let reader = WordReader::new(&words);
         assert_eq!(rt; reader.len(), 300_000);
-        assert_eq!(rt; told(reader.cell(299_999)), 1);
-        assert_eq!(rt; told(reader.cell(300_000)), 14);
+        assert_eq!(rt; reader.cell(299_999), Ok(Bit::One));
+        assert_eq!(rt; reader.cell(300_000), refused(Cause::CellMissing));
     }
 
     #[test]
@@ -106,7 +91,7 @@ mod tests {
             writer.put(Bit::One)?;
         }
         writer.put(Bit::Zero)?;
-        assert_eq!(rt; number(writer.put(Bit::One)), 11);
+        assert_eq!(rt; writer.put(Bit::One), refused(Cause::CarrierFull));
         assert!(rt; memory[299_999] == 0x007F && memory[300_000] == 0);
         Ok(())
     }

@@ -1,13 +1,12 @@
 -- A record of nothing is lawful in each mode.
-use Rattle.std.proofs.Common.{◌≡◌, ℕ, zero, suc, ◌+◌, ◌*◌, ◌<◌, List, [], length, get_or, take, replicate, refl, ap, ◌∙◌, ⊎_elim, arith, pow_pos}
+use Rattle.std.proofs.Common.{◌≡◌, ℕ, zero, suc, ◌+◌, ◌*◌, ◌^◌, ◌<◌, ◌≤◌, List, [], length, get_or, take, replicate, refl, ap, ◌∙◌, ⊎_elim, arith, pow_pos}
 use Rattle.std.proofs.lemmas.List.{take-replicate}
 use Rattle.std.proofs.lemmas.Bool.{cases_lt}
 use Rattle.pulses.specs.declared.pulse.Pulse.{Pulse}
 use Rattle.pulses.specs.Sets.{none, apart}
 use Rattle.modes.specs.declared.mode.Mode.{Mode}
-use Rattle.modes.specs.Modes.{row, pulses_in}
-use Rattle.modes.specs.Fields.{width, field_at}
-use Rattle.frames.specs.Lawful.{Fit, pulse_at, OnTrack, Rising, Padded, Long}
+use Rattle.modes.specs.Modes.{pulses_in}
+use Rattle.frames.specs.Lawful.{pulse_at, Long}
 use Rattle.modes.proofs.Modes.{pulses_in_few, pulses_in_has}
 
 pub replicate_at : {X : Type 0} (n k : ℕ) (a : X) → get_or (replicate n a) k a ≡ a
@@ -28,18 +27,19 @@ row_at zero i h = absurd (omega arith)
 row_at (suc n) zero h = refl
 row_at (suc n) (suc i) h = row_at n i (omega arith)
 
-pub blank_fit : (m : Mode) → Fit m (replicate 24 0)
-blank_fit m k = rw (replicate_at {X = ℕ} 24 k 0) (pow_pos (width m (field_at k)))
+-- of each width, and so of each mode
+pub blank_fit : (width : ℕ → ℕ) (k : ℕ) → get_or (replicate 24 0) k 0 < 2 ^ width k
+blank_fit width k = rw (replicate_at {X = ℕ} 24 k 0) (pow_pos (width k))
 
-pub blank_on : (m : Mode) → OnTrack m nothing
-blank_on m i k = rw (rows_at 16 i k) (pow_pos (row m).places)
+pub blank_on : (places i k : ℕ) → 0 < places → (pulse_at nothing i k).place < places
+blank_on places i k h = rw (rows_at 16 i k) h
 
-pub blank_rising : (m : Mode) → Rising m nothing
+pub blank_rising : (i k : ℕ) → (pulse_at nothing i k).place + apart (pulse_at nothing i k) (pulse_at nothing i (k + 1)) ≤ (pulse_at nothing i (k + 1)).place
 unfolding apart
-blank_rising m i k h = rw (rows_at 16 i k, rows_at 16 i (k + 1)) (omega arith)
+blank_rising i k = rw (rows_at 16 i k, rows_at 16 i (k + 1)) (omega arith)
 
-pub blank_padded : (m : Mode) → Padded m nothing
-blank_padded m i k h = rows_at 16 i k
+pub blank_padded : (i k : ℕ) → pulse_at nothing i k ≡ none
+blank_padded i k = rows_at 16 i k
 
 pub blank_long : Long nothing
 blank_long i h = ap length (row_at 16 i h)

@@ -1,13 +1,12 @@
 -- A field's cell is its own; and what a shift tells.
-use Rattle.std.proofs.Common.{◌≡◌, ℕ, ◌/◌, ◌^◌, ◌<◌, ◌≤◌, ltb, ◌≢◌, List, length, get_or, set, sym, refl, ap, ◌∙◌, subst, ⊎_elim, zero-add, zero-mul, arith, get_or-set_other, get_or-set_same, pow_pos}
+use Rattle.std.proofs.Common.{◌≡◌, ℕ, ◌/◌, ◌^◌, ◌<◌, ltb, ◌≢◌, sym, refl, ap, ◌∙◌, ⊎_elim, zero-add, zero-mul, arith, pow_pos}
 use native.Mathlib.Nat.{lt-div-mul-add}
-use Rattle.std.proofs.lemmas.Bool.{cond_both, cases_eq, cases_lt}
+use Rattle.std.proofs.lemmas.Bool.{cond_both, cases_lt}
 use Rattle.std.proofs.lemmas.Bool.Decides.{nat_tests}
 use Rattle.modes.specs.declared.mode.Mode.{Mode}
 use Rattle.modes.specs.declared.field.Field.{Field}
 use Rattle.modes.specs.declared.field.Field.TheVariants.{Voice, Spectrum, Delay, FilterFlag, Gain, HighBandGain}
 use Rattle.modes.specs.Fields.{cell_of, field_at, width}
-use Rattle.frames.specs.Lawful.{Fit}
 
 pub field_cell : (x : Field) → cell_of x < 24 → field_at (cell_of x) ≡ x
 field_cell Voice h = refl
@@ -41,16 +40,6 @@ width_has m (Delay s) h = ⊎_elim (λ l. grind (arith, nat_tests)) (λ l. absur
 width_has m (FilterFlag s) h = ⊎_elim (λ l. grind (arith, nat_tests)) (λ l. absurd (grind (arith, nat_tests))) (cases_lt s 4)
 width_has m (Gain s) h = ⊎_elim (λ l. grind (arith, nat_tests)) (λ l. absurd (grind (arith, nat_tests))) (cases_lt s 4)
 width_has m (HighBandGain s) h = ⊎_elim (λ l. grind (arith, nat_tests)) (λ l. absurd (grind (arith, nat_tests))) (cases_lt s 4)
-
-pub fit_set : (m : Mode) (values : List ℕ) (x : Field) (v : ℕ) → 24 ≤ length values → 0 < width m x → v < 2 ^ width m x → Fit m values → Fit m (set values (cell_of x) v)
-fit_set m values x v l has fits old k =
-    let c = width_has m x has in
-    ⊎_elim
-    (λ e.
-    let Q : ℕ → Type 0 = λ k. get_or (set values (cell_of x) v) k 0 < 2 ^ width m (field_at k) in
-    subst Q (sym e) (rw (get_or-set_same values (cell_of x) v 0 (omega arith), field_cell x c) fits))
-    (λ ne. rw (get_or-set_other values (cell_of x) k v 0 ne) (old k))
-    (cases_eq k (cell_of x))
 
 pub below_from_shr : (v w : ℕ) → v / 2 ^ w ≡ 0 → v < 2 ^ w
 below_from_shr v w e = let h = lt-div-mul-add {a = v} {b = 2 ^ w} (pow_pos w) in let g = rw (e, zero-mul, zero-add) at h in g

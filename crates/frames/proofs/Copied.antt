@@ -1,8 +1,7 @@
 -- Why a copy of a record's fields and tracks is never refused, and what it leaves.
-use Rattle.std.proofs.Common.{◌≡◌, ℕ, ◌-◌, ◌^◌, ◌<◌, ◌≤◌, List, length, take, drop, Ok, Err, Result, sym, refl, ap, ◌∙◌, subst, ⊎_elim, arith, pow_pos, MatchResult}
-use native.Mathlib.Nat.{sub-zero}
+use Rattle.std.proofs.Common.{◌≡◌, ℕ, ◌^◌, ◌<◌, ◌≤◌, List, Ok, Err, Result, sym, refl, ap, ◌∙◌, subst, ⊎_elim, arith, pow_pos, MatchResult}
 use Rattle.std.proofs.lemmas.Bool.{cases_lt}
-use Rattle.std.proofs.lemmas.List.{get_or_past, length-take, take_at}
+use Rattle.std.proofs.lemmas.List.{get_or_past}
 use Rattle.refusals.specs.declared.cause.Cause.{Cause}
 use Rattle.refusals.specs.declared.refusal.Refusal.{Refusal}
 use Rattle.pulses.specs.declared.pulse.Pulse.{Pulse}
@@ -12,12 +11,12 @@ use Rattle.modes.specs.declared.field.Field.{Field}
 use Rattle.frames.specs.declared.frame.Frame.{Frame}
 use Rattle.modes.specs.Modes.{row, pulses_in}
 use Rattle.modes.specs.Fields.{cell_of, width}
-use Rattle.frames.specs.Frames.{value, field_bits, count_of, pulses, track_width, FieldSet, FieldRefused, TrackSet, TrackRefused, Unlawful, WhyNot, Handed, NotHanded, FieldCopied, TrackCopied}
+use Rattle.frames.specs.Frames.{value, field_bits, count_of, pulses, track_width, FieldSet, FieldRefused, TrackSet, TrackRefused, Unlawful, WhyNot, FieldCopied, TrackCopied}
 use Rattle.frames.specs.Frames.WhyNot.{no_track, unlawful}
-use Rattle.modes.proofs.Modes.{pulses_in_few, pulses_in_has}
+use Rattle.modes.proofs.Modes.{pulses_in_has}
 use Rattle.frames.proofs.Cells.{field_cell}
 use Rattle.frames.proofs.Taken.{never_unlawful, sort_again}
-use Rattle.frames.proofs.Parted.{frame_row, frame_front}
+use Rattle.frames.proofs.Parted.{frame_front}
 
 -- every value fits
 pub value_fits : (f : Frame) (x : Field) → value f x < 2 ^ field_bits f x
@@ -79,22 +78,21 @@ track_copied f to to' s t given r em has eg h =
       others = d.others;
     }
 
-pub track_left : (f to : Frame) (s t : ℕ) → to.mode ≡ f.mode → count_of f s t ≡ 0 → TrackCopied f to to s t
+track_left : (f to : Frame) (s t : ℕ) → to.mode ≡ f.mode → count_of f s t ≡ 0 → TrackCopied f to to s t
 track_left f to s t em z =
     let zt : count_of to s t ≡ 0 = rw em z in
     record { mode = refl; fields = λ x. refl; here = rw (z, zt); others = λ s' t' ne. refl }
 
--- the front of what was handed out is the track's pulses
-pub handed_front : (f : Frame) (s t n : ℕ) (before out : List Pulse) → Handed f s t before out n → take (n - 0) out ≡ pulses f s t
-handed_front f s t n before out h =
-    let l = pulses_in_has f.mode s t (omega (arith, h)) in
-    let r = frame_row f s t l.0 l.1 in
-    let long : length (pulses f s t) ≡ n = simp length-take (omega (arith, r.long, r.few, h)) in
-    rw (sub-zero n, h.3) (take_at (pulses f s t) (drop n before) n long)
+unset : {U : Type 0} (to to' : Frame) (s t : ℕ) (given : List Pulse) (r : Result U Refusal) → count_of to s t ≡ 0
+    → MatchResult r (λ _. TrackSet to to' s t given) (λ e. TrackRefused to to' s t given e) → to' ≡ to
+unset to to' s t given (Ok u) z h = absurd (omega (arith, h.has))
+unset to to' s t given (Err e) z h = h.0
 
-pub not_handed : (f : Frame) (s t : ℕ) (before out : List Pulse) (e : Refusal) → length before ≡ 6 → NotHanded f s t before out e → count_of f s t ≡ 0
-not_handed f s t before out e m h =
+-- a track is set again, or the mode lacks it, and nothing changes
+pub track_put : {U : Type 0} (f to to' : Frame) (s t : ℕ) (given : List Pulse) (r : Result U Refusal) → to.mode ≡ f.mode → given ≡ pulses f s t
+    → MatchResult r (λ _. TrackSet to to' s t given) (λ e. TrackRefused to to' s t given e) → TrackCopied f to to' s t
+track_put f to to' s t given r em eg h =
     ⊎_elim
-    (λ has. absurd (omega (arith, pulses_in_few f.mode s t, (h.2 has).0)))
-    (λ no. omega arith)
+    (λ has. track_copied f to to' s t given r em has eg h)
+    (λ no. let z : count_of f s t ≡ 0 = omega arith in let P : Frame → Type 0 = λ g. TrackCopied f to g s t in subst P (sym (unset to to' s t given r (rw em z) h)) (track_left f to s t em z))
     (cases_lt 0 (count_of f s t))

@@ -1,6 +1,6 @@
 -- The house index of a track, as writing an index gives it.
-use Rattle.std.proofs.Common.{◌≡◌, ℕ, ◌-◌, ◌<◌, true, List, [], get_or, take, Ok, Err, sym, refl, ap, ◌∙◌, subst, ⊎_elim, arith}
-use native.Mathlib.Nat.{sub-zero}
+use Rattle.std.proofs.Common.{◌≡◌, ℕ, ◌<◌, true, List, [], get_or, Ok, Err, Result, sym, refl, ap, ◌∙◌, subst, ⊎_elim, arith}
+use Rattle.std.specs.Result.{result_unwrap_or}
 use Rattle.std.proofs.lemmas.Bool.{cases_lt}
 use Rattle.refusals.specs.declared.cause.Cause.TheVariants.{WrongNumber}
 use Rattle.refusals.specs.declared.refusal.Refusal.{Refusal}
@@ -8,12 +8,12 @@ use Rattle.refusals.specs.Spots.{because}
 use Rattle.pulses.specs.declared.pulse.Pulse.{Pulse}
 use Rattle.pulses.specs.House.{house}
 use Rattle.pulses.specs.Calls.{used, write_index}
-use Rattle.pulses.proofs.CallLaws.{writes, never, ok_is}
+use Rattle.pulses.proofs.CallLaws.{writes}
 use Rattle.modes.specs.declared.mode.Mode.{Mode}
 use Rattle.modes.specs.Modes.{row, pulses_in}
 use Rattle.modes.proofs.Modes.{by_mode, pulses_in_has, pulses_in_here}
 use Rattle.frames.specs.declared.frame.Frame.{Frame}
-use Rattle.frames.specs.Frames.{count_of, row_of, pulses, track_width}
+use Rattle.frames.specs.Frames.{count_of, pulses, track_width}
 use Rattle.frames.specs.Bits.{index}
 use Rattle.frames.proofs.Lags.{by_four}
 use Rattle.frames.proofs.Parted.{frame_front}
@@ -59,21 +59,12 @@ no_index : (f : Frame) (s t : ℕ) → count_of f s t ≡ 0 → 0 ≡ index f s 
 unfolding index
 no_index f s t e = rw e
 
--- with what the code has
-module _ (f : Frame) (s t M n : ℕ) (eM : M ≡ track_width f) (en : n ≡ count_of f s t) where
-  same : write_index M (take (n - 0) (row_of f s t)) ≡ write_index (track_width f) (pulses f s t)
-  same = rw (sub-zero n, en, eM)
-
-  pub index_told : (i : ℕ) → Ok i ≡ write_index M (take (n - 0) (row_of f s t)) → i ≡ index f s t
-  index_told i h =
-      ⊎_elim
-      (λ has. ok_is i (index f s t) (h ∙ same ∙ house_written f s t has))
-      (λ no. let e : count_of f s t ≡ 0 = omega arith in absurd (never i (because WrongNumber) (sym (h ∙ same ∙ no_pulses f s t e))))
-      (cases_lt 0 (count_of f s t))
-
-  pub index_none : (x : Refusal) → Err x ≡ write_index M (take (n - 0) (row_of f s t)) → 0 ≡ index f s t
-  index_none x h =
-      ⊎_elim
-      (λ has. absurd (never (index f s t) x (h ∙ same ∙ house_written f s t has)))
-      (λ no. let e : count_of f s t ≡ 0 = omega arith in no_index f s t e)
-      (cases_lt 0 (count_of f s t))
+-- what writing an index gives, with 0 where it refuses
+pub index_written : (f : Frame) (s t M : ℕ) (ps : List Pulse) (r : Result ℕ Refusal) → M ≡ track_width f → ps ≡ pulses f s t → r ≡ write_index M ps
+    → result_unwrap_or r 0 ≡ index f s t
+index_written f s t M ps r eM ep e =
+    let told : r ≡ write_index (track_width f) (pulses f s t) = rw (← eM, ← ep) e in
+    ⊎_elim
+    (λ has. rw (told ∙ house_written f s t has) refl)
+    (λ no. let z : count_of f s t ≡ 0 = omega arith in rw (told ∙ no_pulses f s t z) (no_index f s t z))
+    (cases_lt 0 (count_of f s t))

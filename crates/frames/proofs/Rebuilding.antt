@@ -1,11 +1,11 @@
--- The steps of the loops that build a record again.
-use Rattle.std.proofs.Common.{◌≡◌, ℕ, ◌+◌, ◌*◌, ◌/◌, ◌%◌, ◌<◌, sym, ◌∙◌, subst, ⊎_elim, arith}
+-- The steps of the loop that builds the fields of a record again, and its end.
+use Rattle.std.proofs.Common.{◌≡◌, ℕ, ◌+◌, ◌<◌, sym, ◌∙◌, subst, ⊎_elim, arith}
 use Rattle.std.proofs.lemmas.Bool.{cases_eq, cases_lt}
 use Rattle.std.proofs.lemmas.List.{get_or_past}
 use Rattle.modes.specs.declared.field.Field.{Field}
 use Rattle.frames.specs.declared.frame.Frame.{Frame}
 use Rattle.modes.specs.Fields.{cell_of, field_at}
-use Rattle.frames.specs.Frames.{value, count_of, pulses, FieldCopied, TrackCopied}
+use Rattle.frames.specs.Frames.{value, count_of, pulses, FieldCopied}
 use Rattle.modes.proofs.Modes.{pulses_in_has}
 use Rattle.frames.proofs.Cells.{field_cell, field_apart}
 
@@ -25,23 +25,11 @@ fields_all f g h x =
     (λ l. get_or_past g.values (cell_of x) 0 (omega (arith, g.cells)) ∙ sym (get_or_past f.values (cell_of x) 0 (omega (arith, f.cells))))
     (cases_lt (cell_of x) 24)
 
-pub tracks_more : (f to to' : Frame) (n : ℕ) → TrackCopied f to to' (n / 4) (n % 4) → ((k : ℕ) → k < n → pulses to (k / 4) (k % 4) ≡ pulses f (k / 4) (k % 4))
-    → (k : ℕ) → k < n + 1 → pulses to' (k / 4) (k % 4) ≡ pulses f (k / 4) (k % 4)
-tracks_more f to to' n c old k h =
-    ⊎_elim
-    (λ e. let P : ℕ → Type 0 = λ k. pulses to' (k / 4) (k % 4) ≡ pulses f (k / 4) (k % 4) in subst P (sym e) c.here)
-    (λ ne. c.others (k / 4) (k % 4) (λ a b. ne (omega arith)) ∙ old k (omega arith))
-    (cases_eq k n)
-
--- sixteen rows are all tracks
-pub tracks_all : (f g : Frame) → g.mode ≡ f.mode → ((k : ℕ) → k < 16 → pulses g (k / 4) (k % 4) ≡ pulses f (k / 4) (k % 4)) → (s t : ℕ) → pulses g s t ≡ pulses f s t
+-- sixteen tracks are all tracks
+pub tracks_all : (f g : Frame) → g.mode ≡ f.mode → ((s t : ℕ) → s < 4 → t < 4 → pulses g s t ≡ pulses f s t) → (s t : ℕ) → pulses g s t ≡ pulses f s t
 tracks_all f g em h s t =
     ⊎_elim
-    (λ has.
-    let l = pulses_in_has f.mode s t has in
-    let a : (4 * s + t) / 4 ≡ s = omega (arith, l) in
-    let b : (4 * s + t) % 4 ≡ t = omega (arith, l) in
-    rw (a, b) at (h (4 * s + t) (omega (arith, l))))
+    (λ has. let l = pulses_in_has f.mode s t has in h s t l.0 l.1)
     (λ no.
     let z : count_of f s t ≡ 0 = omega arith in
     let zg : count_of g s t ≡ 0 = rw em z in

@@ -1,24 +1,18 @@
--- The steps of the loops that hand pulses out and sum amplitudes.
-use Rattle.std.proofs.Common.{◌≡◌, ℕ, ◌+◌, ◌-◌, ◌*◌, ◌/◌, ◌%◌, ◌<◌, ◌≤◌, Bool, true, false, cond, eqb, List, [], ◌∷◌, ◌++◌, length, get_or, take, drop, set, ℤ, pos, ◌+ℤ◌, ◌-ℤ◌, refl, ap, ◌∙◌, ⊎_elim, append_assoc, arith, w8, SFits, to_z, of_z}
-use Rattle.std.proofs.lemmas.List.{take_more, drop_more, set_at, length-take, get_or-take, get_or_append_left, get_or-append_right}
+-- The steps of the loop that sums an amplitude, and what a sample is.
+use Rattle.std.proofs.Common.{◌≡◌, ℕ, ◌+◌, ◌/◌, ◌%◌, ◌<◌, ◌≤◌, Bool, true, false, cond, eqb, List, [], ◌∷◌, ◌++◌, length, take, ℤ, pos, ◌+ℤ◌, ◌-ℤ◌, refl, ⊎_elim, arith, w8, SFits, to_z, of_z}
+use Rattle.std.proofs.lemmas.List.{take_more}
 use Rattle.std.proofs.lemmas.Int.{ints}
 use Rattle.std.proofs.lemmas.Bool.Decides.{nat_tests}
-use Rattle.std.proofs.lemmas.Bool.{cases_eq, cases_lt}
-use borrow.Rule.Slice.PartMut.{put_mid}
+use Rattle.std.proofs.lemmas.Bool.{cases_eq}
 use Rattle.pulses.specs.declared.pulse.Pulse.{Pulse}
 use Rattle.pulses.specs.declared.pulse.Sign.{Sign}
 use Rattle.pulses.specs.declared.pulse.Sign.TheVariants.{Plus, Minus}
 use Rattle.pulses.specs.Pulses.{alike, hit, tally}
 use Rattle.pulses.specs.Sets.{none, at}
 use Rattle.frames.specs.declared.frame.Frame.{Frame}
-use Rattle.modes.specs.Modes.{row, pulses_in}
-use Rattle.frames.specs.Sound.{signed, amplitude_at, sample_of}
-
-pub copy_more : (row out out' : List Pulse) (k : ℕ) → k < length row → k < length out → out' ≡ take k row ++ drop k out
-    → set out' k (at row k) ≡ take (k + 1) row ++ drop (k + 1) out
-copy_more row out out' k l m e =
-    let n : length (take k row) ≡ k = simp length-take (omega arith) in
-    rw (e, drop_more out k none m, set_at (take k row) (at out k) (drop (k + 1) out) (at row k) k n, take_more row k none l, append_assoc)
+use Rattle.modes.specs.Modes.{row}
+use Rattle.frames.specs.Frames.{pulses}
+use Rattle.frames.specs.Sound.{signed, amplitude_at, sample_of, sample}
 
 tally_push : (ps : List Pulse) (p : Pulse) (x : ℕ) (s : Sign) → tally (ps ++ p ∷ []) x s ≡ tally ps x s + hit p x s
 tally_push [] p x s = omega arith
@@ -77,22 +71,6 @@ pub sum_is : (m : Sign) (sum z : ℤ) (a b n : ℕ) → sum ≡ pos a -ℤ pos b
 sum_is Minus sum z a b n e h k f = omega (arith, ints)
 sum_is Plus sum z a b n e h k f = omega (arith, ints)
 
--- one part more
-pub part_more : (f : ℕ → ℤ) (out part : List ℤ) (a n : ℕ) → a + n ≤ length out → length part ≡ n
-    → ((k : ℕ) → k < a → get_or out k (pos 0) ≡ f k) → ((j : ℕ) → j < n → get_or part j (pos 0) ≡ f (a + j))
-    → (k : ℕ) → k < a + n → get_or (put_mid a (a + n - a) out part) k (pos 0) ≡ f k
-part_more f out part a n l m old new k h =
-    let la : length (take a out) ≡ a = simp length-take (omega arith) in
-    ⊎_elim
-    (λ lt. get_or_append_left (take a out) _ (pos 0) k (omega arith) ∙ get_or-take a out k (pos 0) lt ∙ old k lt)
-    (λ ge.
-    let e : a + (k - a) ≡ k = omega arith in
-    get_or-append_right (take a out) _ a k (pos 0) la ge
-    ∙ get_or_append_left part _ (pos 0) (k - a) (omega arith)
-    ∙ new (k - a) (omega arith) ∙ ap f e)
-    (cases_lt k a)
-
-pub sample_read : (f : Frame) (s j m n : ℕ) → m ≡ (row f.mode).tracks → n ≡ pulses_in f.mode s (j % m)
-    → amplitude_at (take n (get_or f.tracks (4 * s + j % m) [])) (j / m) ≡ sample_of f s j
+pub sample_read : (f : Frame) (k m p : ℕ) (ps : List Pulse) → m ≡ (row f.mode).tracks → ps ≡ pulses f (k / 64) (k % 64 % m) → p ≡ k % 64 / m → amplitude_at ps p ≡ sample f k
 unfolding sample_of
-sample_read f s j m n em en = rw (en, em)
+sample_read f k m p ps em e ep = rw (e, ep, em)

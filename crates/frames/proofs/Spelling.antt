@@ -26,9 +26,6 @@ read_one w v rest h =
     ∙ ap (λ a. numeral a (bits_of w v)) (sym (div-eq_of_lt h))
     ∙ numeral_bits w v
 
-abbrev values_by : (Slot → ℕ) → List Slot → List ℕ
-values_by g ss = map g ss
-
 pub read_spelt : (g : Slot → ℕ) (ss : List Slot) → AllByRecursion (λ s. g s < 2 ^ s.width) ss → read_slots ss (spell ss (map g ss)) ≡ map g ss
 read_spelt g [] h = refl
 read_spelt g (s ∷ ss) h =

@@ -1,9 +1,11 @@
 -- What a track takes: the answers of a track set, and the rows that hold one.
-use Rattle.std.proofs.Common.{◌≡◌, ℕ, suc, ◌+◌, ◌-◌, ◌^◌, ◌<◌, ◌≤◌, leb, ◌⊎◌, List, [], ◌∷◌, length, take, replicate, Ok, Err, Result, sym, refl, ap, ◌∙◌, subst, inl, inr, ⊎_elim, arith, length-append, pow_pos}
+use Rattle.std.proofs.Common.{◌≡◌, ℕ, suc, ◌+◌, ◌-◌, ◌^◌, ◌<◌, ◌≤◌, leb, ◌⊎◌, List, [], ◌∷◌, length, take, replicate, Ok, Err, Result, sym, refl, ap, ◌∙◌, subst, inl, inr, ⊎_elim, arith, length-append, pow_pos, MatchResult}
 use lib.ListN.{length-replicate}
 use Rattle.std.specs.List.{AllByRecursion}
 use Rattle.std.proofs.lemmas.List.{ext_get_or, length-take, get_or-take, take_at, get_or_append_left, get_or-append_right}
 use Rattle.std.proofs.ByRecursion.{All-get_or, All-from_get_or}
+use Rattle.std.specs.Result.{IsErrAnd}
+use Rattle.std.proofs.lemmas.Result.{err_from_is_err_and}
 use Rattle.std.proofs.lemmas.Bool.{cases_eq, cases_lt, cases_Bool, cond_both, true≢false}
 use Rattle.refusals.specs.declared.cause.Cause.{Cause}
 use Rattle.refusals.specs.declared.cause.Cause.TheVariants.{WrongNumber, OffTrack, BothSigns}
@@ -54,25 +56,19 @@ asked n M ps l =
 abbrev Answer : Type 0
 Answer = Result (List Pulse) Refusal
 
-abbrev told : Answer → ℕ
-told (Ok x) = 0
-told (Err e) = 1
+ok_is : (x y : List Pulse) → ◌≡◌ {A = Answer} (Ok x) (Ok y) → x ≡ y
+ok_is x y p = cc
 
-abbrev row_told : Answer → List Pulse
-row_told (Ok x) = x
-row_told (Err e) = []
-
-abbrev cause_told : Answer → Cause
-cause_told (Ok x) = WrongNumber
-cause_told (Err e) = e.cause
+err_is : (e d : Refusal) → ◌≡◌ {A = Answer} (Err e) (Err d) → e ≡ d
+err_is e d p = cc
 
 ok_err : (x : List Pulse) (e : Refusal) → ◌≡◌ {A = Answer} (Ok x) (Err e) → ⊥
-ok_err x e p = let z : ◌≡◌ {A = ℕ} 0 1 = ap told p in omega arith
+ok_err x e p = let z : ◌≡◌ {A = ℕ} 0 1 = cc in absurd (omega arith)
 
 pub taken_ok : (n M : ℕ) (ps row : List Pulse) → n ≤ 6 → ◌≡◌ {A = Answer} (Ok row) (track_set n M ps) → Group M n ps × (row ≡ padded (sort ps))
 taken_ok n M ps row l e =
     ⊎_elim
-    (λ a. (a.group, ap row_told (e ∙ a.answer)))
+    (λ a. (a.group, ok_is row (padded (sort ps)) (e ∙ a.answer)))
     (λ r. absurd (ok_err row (because r.cause) (e ∙ r.answer)))
     (asked n M ps l)
 
@@ -80,8 +76,21 @@ pub taken_err : (n M : ℕ) (ps : List Pulse) (r : Refusal) → n ≤ 6 → ◌�
 taken_err n M ps r l e =
     ⊎_elim
     (λ a. absurd (ok_err (padded (sort ps)) r (sym (e ∙ a.answer))))
-    (λ u. let Q : Cause → Type 0 = λ c. Unlawful n M ps c in subst Q (sym (ap cause_told (e ∙ u.answer))) u.why)
+    (λ u. let Q : Cause → Type 0 = λ c. Unlawful n M ps c in subst Q (sym (ap (λ x. x.cause) (err_is r (because u.cause) (e ∙ u.answer)))) u.why)
     (asked n M ps l)
+
+-- what is told of a refusal leaves a set that is taken, and comes from a refusal
+pub told_ok : (r q : Answer) (P : Refusal → Refusal → Type 0) (row : List Pulse) → MatchResult r (λ x. q ≡ Ok x) (λ e. IsErrAnd q (P e)) → q ≡ Ok row → Ok row ≡ r
+told_ok (Ok x) q P row h w = sym w ∙ h
+told_ok (Err e) q P row h w = let d = err_from_is_err_and q h in absurd (ok_err row d.0 (sym w ∙ d.1))
+
+pub told_err : (r q : Answer) (P : Refusal → Refusal → Type 0) (d : Refusal) → MatchResult r (λ x. q ≡ Ok x) (λ e. IsErrAnd q (P e)) → q ≡ Err d
+    → (e : Refusal) × (Err e ≡ r) × P e d
+told_err (Ok x) q P d h w = absurd (ok_err x d (sym h ∙ w))
+told_err (Err e) q P d h w =
+    let f = err_from_is_err_and q h in
+    let same : f.0 ≡ d = err_is f.0 d (sym f.1 ∙ w) in
+    (e, refl, subst (P e) same f.2)
 
 pub never_unlawful : (n M : ℕ) (ps : List Pulse) (c : Cause) → Group M n ps → Unlawful n M ps c → ⊥
 never_unlawful n M ps _ g (wrong_number h) = h g.size

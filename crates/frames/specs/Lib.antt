@@ -3,3 +3,4 @@ pub mod Frames
 pub mod Sound
 pub mod Delays
 pub mod Bits
+pub mod Refusing

@@ -25,10 +25,14 @@ pub mod rebuilt;
 ///
 /// A field that the mode lacks is kept as 0, and so two records are equal
 /// exactly when their modes, fields and pulses are.
-#[derive(Clone, Copy)]
+#[derive(Clone, Copy, PartialEq, Eq, Debug)]
 pub struct Frame {
     mode: Mode,
+    // One for each field that some mode has: nothing here allocates.
     values: [u16; 24],
+    // Track t of subframe s is row 4s + t, with room for the six pulses that a
+    // track has at most: nothing here allocates, and the mode tells how many
+    // are in use, so that no number stands beside them.
     tracks: [[Pulse; 6]; 16],
     ghost fit: { Fit mode values },
     ghost on: { OnTrack mode tracks },

@@ -3,7 +3,9 @@
 //! A [`frame::Frame`] is lawful for its mode whatever is done to it.
 #![tactic(auto)]
 
-/// The rows in which a record keeps the pulses of its tracks.
+/// What the pulses of a track add to a sample.
 mod rows;
+/// Refusals that tell a part of the plan.
+mod refusing;
 /// The frame record and its calls.
 pub mod frame;

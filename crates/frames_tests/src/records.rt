@@ -28,7 +28,7 @@ fn refused<T: Drop>(
 
 #[test]
 fn modes_by_number(rt: HostRuntime) -> Result<(), Fail> {
-    assert!(rt; Mode::from_number(9).is_none());
+    assert!(rt; Mode::try_from(9u8) == Err(Cause::NoSuchMode));
     assert_eq!(rt; Frame::blank(8)?.mode(), Mode::Rate23k85);
     assert!(rt; refused(Frame::blank(9), Cause::NoSuchMode, None, None));
     Ok(())

@@ -28,38 +28,37 @@ fn range(mode: Mode, part: Part) -> (usize, usize)
     ensures end { result.1 ≤ 20000 }
 {
     let mut first = 1;
-    for k in 0..56 {
-        if let Some(slot) = mode.slot_at(k) {
-            if slot.part == part {
-                return (first, first + slot.width as usize);
-            }
-            first += slot.width as usize;
+    for slot in mode.slots() {
+        let end = first + slot.width as usize;
+        if slot.part == part {
+            return (first, end);
         }
+        first = end;
     }
     (0, 0)
 }
 
 /// Whether every line holds of the mode's plan.
 fn holds(mode: Mode, lines: &[Printed]) -> bool {
-    for l in lines {
-        let (first, end) = range(mode, l.part);
-        if first != l.first as usize || end != l.last as usize + 1 {
-            return false;
-        }
-    }
-    true
+    lines.iter().all(|l| range(mode, l.part) == (l.first as usize, l.last as usize + 1))
 }
 
-/// Part `i` of a subframe, of the twelve that a mode can have.
-fn part_of(subframe: usize, i: usize) -> Part {
-    match i {
-        0 => Part::Value(Field::Delay(subframe)),
-        1 => Part::Value(Field::FilterFlag(subframe)),
-        2..6 => Part::High(subframe, i - 2),
-        6..10 => Part::Low(subframe, i - 6),
-        10 => Part::Value(Field::Gain(subframe)),
-        _ => Part::Value(Field::HighBandGain(subframe)),
-    }
+/// The twelve parts that a mode can have in a subframe.
+fn parts_of(subframe: usize) -> [Part; 12] {
+    [
+        Part::Value(Field::Delay(subframe)),
+        Part::Value(Field::FilterFlag(subframe)),
+        Part::High(subframe, 0),
+        Part::High(subframe, 1),
+        Part::High(subframe, 2),
+        Part::High(subframe, 3),
+        Part::Low(subframe, 0),
+        Part::Low(subframe, 1),
+        Part::Low(subframe, 2),
+        Part::Low(subframe, 3),
+        Part::Value(Field::Gain(subframe)),
+        Part::Value(Field::HighBandGain(subframe)),
+    ]
 }
 
 /// Whether the bits of `subframe` from `first` on stand again, with the same
@@ -67,9 +66,9 @@ fn part_of(subframe: usize, i: usize) -> Part {
 fn same_again(mode: Mode, subframe: usize, again: usize, first: u16, moved: u16) -> bool {
     let first = first as usize;
     let moved = moved as usize;
-    for i in 0..12 {
-        let (a, a_end) = range(mode, part_of(subframe, i));
-        let (b, b_end) = range(mode, part_of(again, i));
+    for (p, q) in parts_of(subframe).iter().zip(parts_of(again).iter()) {
+        let (a, a_end) = range(mode, *p);
+        let (b, b_end) = range(mode, *q);
         if a >= first && (b + first != a + moved || b_end + first != a_end + moved) {
             return false;
         }

@@ -1,3 +1,5 @@
+use std::fmt;
+
 /// What a line asks: the set of an index.
 #[derive(Clone, Copy)]
 pub struct Question {
@@ -6,82 +8,109 @@ pub struct Question {
     pub index: u32,
 }
 
+/// The three numbers, parted by tabs.
+impl fmt::Display for Question {
+    fn fmt<W: fmt::Write>(&self, f: &mut fmt::Formatter<W>) -> fmt::Result {
+        let Question {
+            pulses,
+            width,
+            index,
+        } = *self;
+        write!(f, "{pulses}\t{width}\t{index}")
+    }
+}
+
+/// What the last octet of a line was.
+#[derive(Clone, Copy)]
+enum Last {
+    Digit,
+    Blank,
+    /// A carriage return, which only the line's end may follow.
+    Return,
+}
+
 /// A line as far as it was taken: up to three decimal numbers of 32 bits,
 /// parted by blanks and tabs. A carriage return may stand right before the
 /// line's end.
+// Octet by octet, with no `lines`, `split` and `parse`: a line may have no end,
+// and one is kept in this much memory; nor is `+5` a number here.
 #[derive(Clone, Copy)]
 pub struct Line {
-    numbers: [u32; 3],
-    count: usize,
-    in_number: bool,
-    returned: bool,
-    empty: bool,
-    sound: bool,
+    numbers: [Option<u32>; 3],
+    last: Option<Last>,
 }
 
 impl Line {
     pub fn new() -> Line {
         Line {
-            numbers: [0; 3],
-            count: 0,
-            in_number: false,
-            returned: false,
-            empty: true,
-            sound: true,
+            numbers: [None; 3],
+            last: None,
         }
     }
 
     /// Whether no octet was taken yet.
     pub fn is_empty(&self) -> bool {
-        self.empty
+        self.last.is_none()
     }
 
-    /// Takes the line's next octet.
-    pub fn take(&mut self, octet: u8) {
-        self.empty = false;
-        if self.returned {
-            self.sound = false;
-        }
-        match octet {
-            b'0'..=b'9' => self.take_digit(octet - b'0'),
-            b' ' | b'\t' => self.in_number = false,
-            b'\r' => self.returned = true,
-            _ => self.sound = false,
-        }
-    }
-
-    fn take_digit(&mut self, digit: u8) {
-        if !self.in_number {
-            self.in_number = true;
-            self.count = self.count.saturating_add(1);
-        }
-        if self.count < 1 || self.count > 3 {
-            self.sound = false;
-            return;
-        }
-        let at = self.count - 1;
-        match with_digit(self.numbers[at], digit) {
-            Some(n) => self.numbers[at] = n,
-            None => self.sound = false,
+    /// The line with one more octet, if it can still be three numbers.
+    pub fn with_octet(self, octet: u8) -> Option<Line> {
+        let Line { numbers, last } = self;
+        match (last, octet) {
+            (Some(Last::Return), _) => None,
+            (Some(Last::Digit), b'0'..=b'9') => Some(Line {
+                numbers: with_digit(numbers, octet - b'0')?,
+                last,
+            }),
+            (_, b'0'..=b'9') => Some(Line {
+                numbers: with_number(numbers, octet - b'0')?,
+                last: Some(Last::Digit),
+            }),
+            (_, b' ' | b'\t') => Some(Line {
+                numbers,
+                last: Some(Last::Blank),
+            }),
+            (_, b'\r') => Some(Line {
+                numbers,
+                last: Some(Last::Return),
+            }),
+            _ => None,
         }
     }
 
     /// The three numbers, if the line is three numbers.
     pub fn question(self) -> Option<Question> {
-        if self.sound && self.count == 3 {
-            let [pulses, width, index] = self.numbers;
-            Some(Question {
-                pulses,
-                width,
-                index,
-            })
-        } else {
-            None
-        }
+        let [pulses, width, index] = self.numbers;
+        Some(Question {
+            pulses: pulses?,
+            width: width?,
+            index: index?,
+        })
+    }
+}
+
+/// The numbers and one that begins with this digit, if there is room for it.
+fn with_number(numbers: [Option<u32>; 3], digit: u8) -> Option<[Option<u32>; 3]> {
+    let number = Some(u32::from(digit));
+    match numbers {
+        [None, _, _] => Some([number, None, None]),
+        [a, None, _] => Some([a, number, None]),
+        [a, b, None] => Some([a, b, number]),
+        _ => None,
+    }
+}
+
+/// The numbers, the last with one more digit, if it has 32 bits.
+fn with_digit(numbers: [Option<u32>; 3], digit: u8) -> Option<[Option<u32>; 3]> {
+    match numbers {
+        [a, b, Some(c)] => Some([a, b, Some(longer(c, digit)?)]),
+        [a, Some(b), None] => Some([a, Some(longer(b, digit)?), None]),
+        [Some(a), None, None] => Some([Some(longer(a, digit)?), None, None]),
+        _ => None,
     }
 }
 
 /// The number with one more digit, if it has 32 bits.
-fn with_digit(number: u32, digit: u8) -> Option<u32> {
+fn longer(number: u32, digit: u8) -> Option<u32> {
     number.checked_mul(10)?.checked_add(u32::from(digit))
 }

@@ -3,133 +3,131 @@
 //! the line's index is that one.
 #![tactic(auto)]
 
+ghost use Rattle.std.specs.Prelude.{◌≤◌};
+
 /// One line of input, octet by octet.
 mod line;
 
 use line::{Line, Question};
 use pulses::index::{Reading, read_index, write_index};
-use pulses::pulse::{Pulse, Sign};
+use pulses::pulse::Pulse;
 use pulses::set::NONE;
 use refusals::refusal::Refusal;
-use std::io;
-use std::io::{BufWriter, Read, Write};
+use std::io::{BufReader, BufWriter, Read, Write};
+use std::{fmt, io};
 
 /// What a question is answered with.
 #[derive(Clone, Copy)]
 struct Answer {
+    // The calls hand the pulses out into a row of six, and this many stand in front.
     row: [Pulse; 6],
     number: usize,
     house: u32,
-    strict: bool,
+    /// The strictest way of reading that accepts the index.
+    way: Reading,
+    ghost few: { number ≤ 6 },
+}
+
+impl Answer {
+    fn pulses(&self) -> &[Pulse] {
+        &self.row[..self.number]
+    }
+}
+
+/// The pulses, the house index, and whether the index is that one.
+impl fmt::Display for Answer {
+    fn fmt<W: fmt::Write>(&self, f: &mut fmt::Formatter<W>) -> fmt::Result {
+        for (i, p) in self.pulses().iter().enumerate() {
+            let blank = if i == 0 { "" } else { " " };
+            write!(f, "{blank}{p}")?;
+        }
+        let house = self.house;
+        let word = match self.way {
+            Reading::Strict => "house",
+            Reading::Open => "other",
+        };
+        write!(f, "\t{house}\t{word}")
+    }
 }
 
 fn reply(q: Question) -> Result<Answer, Refusal> {
-    let mut row = [NONE; 6];
-    let number = read_index(Reading::Open, q.pulses as usize, q.width, q.index, &mut row)?;
-    let number = number.min(6);
-    let house = write_index(q.width, &row[0..number])?;
-    let mut again = [NONE; 6];
-    let strict = read_index(
-        Reading::Strict,
-        q.pulses as usize,
-        q.width,
-        q.index,
-        &mut again,
-    )
-    .is_ok();
-    Ok(Answer {
-        row,
-        number,
-        house,
-        strict,
-    })
-}
-
-fn print_pulses<W: Write>(out: &mut W, pulses: &[Pulse]) -> io::Result<()> {
-    for (i, p) in pulses.iter().enumerate() {
-        let blank = if i == 0 { "" } else { " " };
-        let sign = match p.sign {
-            Sign::Plus => '+',
-            Sign::Minus => '-',
-        };
-        let place = p.place;
-        write!(out, "{blank}{sign}{place}")?;
-    }
-    Ok(())
-}
-
-fn print_answer<W: Write>(out: &mut W, q: Question) -> io::Result<()> {
     let Question {
         pulses,
         width,
         index,
     } = q;
-    write!(out, "{pulses}\t{width}\t{index}\t")?;
+    let mut row = [NONE; 6];
+    let number = read_index(Reading::Open, pulses as usize, width, index, &mut row)?;
+    let house = write_index(width, &row[..number])?;
+    let mut again = [NONE; 6];
+    let way = match read_index(Reading::Strict, pulses as usize, width, index, &mut again) {
+        Ok(_) => Reading::Strict,
+        Err(_) => Reading::Open,
+    };
+    Ok(Answer {
+        row,
+        number,
+        house,
+        way,
+    })
+}
+
+fn print_answer<W: Write>(out: &mut W, q: Question) -> io::Result<()> {
     match reply(q) {
-        Ok(a) => {
-            let number = a.number.min(6);
-            print_pulses(out, &a.row[0..number])?;
-            let house = a.house;
-            let word = if a.strict { "house" } else { "other" };
-            writeln!(out, "\t{house}\t{word}")
-        }
+        Ok(answer) => writeln!(out, "{q}\t{answer}"),
         Err(refusal) => {
-            let number = refusal.cause.number();
-            writeln!(out, "R\t{number}")
+            let number = u8::from(refusal.cause);
+            writeln!(out, "{q}\tR\t{number}")
         }
     }
 }
 
-/// The line that is being taken, and its number from 1.
+/// The line that is being taken, while it can still be three numbers, and its
+/// number from 1.
 #[derive(Clone, Copy)]
 struct Input {
-    line: Line,
+    line: Option<Line>,
     number: u64,
 }
 
 impl Input {
-    fn print_line<W: Write>(&mut self, out: &mut W) -> io::Result<()> {
-        match self.line.question() {
+    /// Prints what the line is answered with, and goes to the next.
+    fn end_line<W: Write>(&mut self, out: &mut W) -> io::Result<()> {
+        match self.line.and_then(|line| line.question()) {
             Some(q) => print_answer(out, q)?,
             None => {
                 let number = self.number;
                 writeln!(out, "?\t{number}")?;
             }
         }
-        self.line = Line::new();
+        self.line = Some(Line::new());
         self.number = self.number.saturating_add(1);
         Ok(())
     }
 
-    fn take<W: Write>(&mut self, out: &mut W, octets: &[u8]) -> io::Result<()> {
-        for octet in octets {
-            if *octet == b'\n' {
-                self.print_line(out)?;
-            } else {
-                self.line.take(*octet);
+    fn take<W: Write>(&mut self, out: &mut W, octet: u8) -> io::Result<()> {
+        match octet {
+            b'\n' => self.end_line(out),
+            _ => {
+                self.line = self.line.and_then(|line| line.with_octet(octet));
+                Ok(())
             }
         }
-        Ok(())
     }
 }
 
 fn main(rt: HostRuntime) -> io::Result<()> {
-    let mut from = rt.stdin();
+    let from = BufReader::new(rt.alloc(), rt.stdin())?;
     let mut out = BufWriter::new(rt.alloc(), rt.stdout())?;
     let mut input = Input {
-        line: Line::new(),
+        line: Some(Line::new()),
         number: 1,
     };
-    let mut buf = [0u8; 4096];
-    for _ in 0..u64::MAX {
-        let n = from.read(&mut buf)?;
-        if n == 0 {
-            break;
-        }
-        input.take(&mut out, &buf[0..n])?;
+    for octet in from.bytes() {
+        input.take(&mut out, octet?)?;
     }
-    if !input.line.is_empty() {
-        input.print_line(&mut out)?;
+    if !input.line.is_some_and(|line| line.is_empty()) {
+        input.end_line(&mut out)?;
     }
     out.flush()
 }

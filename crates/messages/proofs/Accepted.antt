@@ -13,7 +13,6 @@ use Rattle.modes.specs.declared.plan.Slot.{Slot}
 use Rattle.modes.specs.Modes.{number_of}
 use Rattle.modes.specs.Plan.{plan, total}
 use Rattle.frames.specs.Bits.{place_of}
-use Rattle.messages.specs.declared.turns.Next.TheVariants.{End, Frame}
 use Rattle.messages.specs.Messages.{Content, bare, slot_spot, spotted, field, read_slot, read_slots, blank, filler, next_frame, read_from}
 use Rattle.messages.specs.Asked.{begun}
 use Rattle.messages.proofs.Steps.{slot_by, ending_fine}
@@ -73,7 +72,7 @@ spelt_length us (s ∷ ss) = length-append (bits_of s.width (get_or us (place_of
 pub content_length : (b : Content) → length (content_cells b) ≡ 4 + total (plan b.mode)
 content_length b = length-append (bits_of 4 (number_of b.mode)) (spelt b.values (plan b.mode)) ∙ ap₂ (λ x y. x + y) (bits_length 4 (number_of b.mode)) (spelt_length b.values (plan b.mode))
 
-begun_mode : (left : ℕ) (m : Mode) → 0 < left → begun left (number_of m) ≡ Frame m
+begun_mode : (left : ℕ) (m : Mode) → 0 < left → begun left (number_of m) ≡ Ok (Some m)
 begun_mode left m l =
     rw (ne_eqb (number_of m) 15 (λ z. omega (arith, number_low m, z)), number_back m, ne_eqb left 0 (λ z. omega arith))
 
@@ -86,7 +85,7 @@ next_accepted how cs rest left n at b sent l e =
     let e' : drop at cs ≡ bits_of 4 v ++ (spelt us (plan m) ++ rest) = e ∙ append_assoc (bits_of 4 v) (spelt us (plan m)) rest in
     let body = slots_accepted how cs rest m n (at + 4) (plan m) blank us 0 refl sent.long (plan_rises m) sent.good sent.empty (past_bits cs (spelt us (plan m) ++ rest) at 4 v e') in
     turn_frame how cs n at m (Ok us) (sym body)
-    ∙ turn_by how cs left n at (bare n at) refl v (Frame m) (field_is cs (spelt us (plan m) ++ rest) (bare n at) at 4 v (omega (arith, low)) e') (sym (begun_mode left m l))
+    ∙ turn_by how cs left n at (bare n at) refl v (Ok (Some m)) (field_is cs (spelt us (plan m) ++ rest) (bare n at) at 4 v (omega (arith, low)) e') (sym (begun_mode left m l))
 
 next_over : (how : Reading) (cs : List Cell) (left n at : ℕ) → drop at cs ≡ bits_of 4 15 ++ bits_of (filler (at + 4)) 0 → Ok None ≡ next_frame how cs left n at
 next_over how cs left n at e =
@@ -95,7 +94,7 @@ next_over how cs left n at e =
     let long : length cs - at ≡ 4 + fill = sym (length-drop at cs) ∙ ap length e ∙ length-append (bits_of 4 15) (bits_of fill 0) ∙ ap₂ (λ x y. x + y) (bits_length 4 15) (bits_length fill 0) in
     let zeros = field_is cs [] (bare n (at + 4)) (at + 4) fill 0 (pow_pos fill) (tail ∙ sym (nil_right (bits_of fill 0))) in
     let over = ending_fine cs n (at + 4) (bare n (at + 4)) 0 refl zeros refl (omega arith) in
-    turn_end how cs n at (Ok tt) over ∙ turn_by how cs left n at (bare n at) refl 15 End (field_is cs (bits_of fill 0) (bare n at) at 4 15 (omega arith) e) refl
+    turn_end how cs n at (Ok tt) over ∙ turn_by how cs left n at (bare n at) refl 15 (Ok None) (field_is cs (bits_of fill 0) (bare n at) at 4 15 (omega arith) e) refl
   where
     nil_right : (xs : List Cell) → xs ++ [] ≡ xs
     nil_right [] = refl

@@ -1,5 +1,5 @@
 -- The questions of reading one by one: a track is asked where a part makes it whole, and a turn goes by what its mode cells begin.
-use Rattle.std.proofs.Common.{◌≡◌, ℕ, ◌+◌, Bool, true, false, cond, List, Some, None, Ok, Option, Result, refl, ◌==◌}
+use Rattle.std.proofs.Common.{◌≡◌, ℕ, ◌+◌, Bool, true, false, cond, List, Some, None, Ok, Err, Option, Result, refl, ◌==◌}
 use Rattle.refusals.specs.declared.cause.Cause.TheVariants.{NoSuchMode, TooManyFrames}
 use Rattle.refusals.specs.declared.refusal.Refusal.{Refusal}
 use Rattle.carriers.specs.Cells.{Cell}
@@ -9,7 +9,6 @@ use Rattle.modes.specs.declared.plan.Part.{Part}
 use Rattle.modes.specs.declared.plan.Part.TheVariants.{Value, High, Low}
 use Rattle.modes.specs.Modes.{mode_of}
 use Rattle.modes.specs.Plan.{plan}
-use Rattle.messages.specs.declared.turns.Next.TheVariants.{End, Frame, Refused}
 use Rattle.messages.specs.Messages.{Content, content, and_then, refuse, bare, field, questioned, ending, read_slots, blank, if_mode, next_frame}
 use Rattle.messages.specs.Asked.{completed, if_whole, track_asked, when_mode, begun, turn}
 
@@ -25,7 +24,7 @@ module _ (how : Reading) (cs : List Cell) (n at : ℕ) where
 
   by_tests : (last none : Bool) (o : Option Mode)
       → cond last (and_then (ending cs n (at + 4)) (λ _. Ok None)) (if_mode (refuse NoSuchMode (bare n at)) (λ m. cond none (refuse TooManyFrames (bare n at)) (framed m)) o)
-      ≡ turn how cs n at (cond last End (when_mode (Refused NoSuchMode) (λ m. cond none (Refused TooManyFrames) (Frame m)) o))
+      ≡ turn how cs n at (cond last (Ok None) (when_mode (Err NoSuchMode) (λ m. cond none (Err TooManyFrames) (Ok (Some m))) o))
   unfolding turn
   by_tests true none o = refl
   by_tests false none None = refl

@@ -1,8 +1,8 @@
 -- Why setting what was read is never refused, and what it leaves; all parts are the record.
-use Rattle.std.proofs.Common.{◌≡◌, ℕ, zero, suc, ◌+◌, ◌-◌, ◌^◌, ◌<◌, ◌≤◌, leb, List, [], ◌∷◌, ◌++◌, length, get_or, take, drop, Some, None, Ok, Err, Option, Result, sym, refl, ap, ◌∙◌, subst, ⊎_elim, arith, MatchResult}
+use Rattle.std.proofs.Common.{◌≡◌, ℕ, ◌-◌, ◌<◌, ◌≤◌, true, leb, List, [], ◌∷◌, ◌++◌, length, take, drop, Some, Ok, Err, Option, Result, sym, refl, ap, ◌∙◌, subst, ⊎_elim, arith, MatchResult}
 use native.Mathlib.Nat.{sub-zero}
-use Rattle.std.specs.List.{AllByRecursion}
-use Rattle.std.proofs.lemmas.Bool.{cases_lt, cases_eq, cond-true, le-leb}
+use Rattle.std.specs.List.{AllByRecursion, list_all}
+use Rattle.std.proofs.lemmas.Bool.{leb-true, and_parts, cases_lt, cases_eq, cond-true, le-leb}
 use Rattle.std.proofs.lemmas.List.{take_at}
 use Rattle.refusals.specs.declared.refusal.Refusal.{Refusal}
 use Rattle.pulses.specs.declared.pulse.Pulse.{Pulse}
@@ -16,7 +16,7 @@ use Rattle.modes.specs.declared.plan.Part.TheVariants.{Value, High, Low}
 use Rattle.modes.specs.declared.plan.Slot.{Slot}
 use Rattle.modes.specs.Modes.{number_of, mode_of, row, pulses_in}
 use Rattle.modes.specs.Fields.{width}
-use Rattle.modes.specs.Plan.{part_width, plan, nth}
+use Rattle.modes.specs.Plan.{part_width, plan, slot}
 use Rattle.modes.proofs.Modes.{by_mode}
 use Rattle.frames.specs.declared.frame.Frame.{Frame}
 use Rattle.frames.specs.Frames.{value, field_bits, count_of, FieldSet, FieldRefused, FieldCopied, TrackCopied, TrackSet, TrackRefused}
@@ -24,15 +24,15 @@ use Rattle.frames.specs.Bits.{place_of}
 use Rattle.frames.proofs.Copied.{value_fits, field_copied, track_copied}
 use Rattle.frames.proofs.Alike.{frame_ext}
 use Rattle.messages.specs.Messages.{Content, joined}
-use Rattle.messages.specs.Contents.{index_in, set_in, Stands, Fine}
+use Rattle.messages.specs.Contents.{held, index_in, set_in, Stands, Fine}
+use Rattle.messages.specs.Asked.{track_read}
 use Rattle.messages.specs.Building.{PartSame, Copied}
-use Rattle.messages.proofs.Planned.{Away, plan_each, plan_part, own_place}
+use Rattle.messages.proofs.Planned.{Away, plan_part, own_place}
 use Rattle.messages.proofs.Questions.{few}
 use Rattle.messages.proofs.Placing.{low_wide}
-use Rattle.messages.proofs.Steps.{at_some, at_none}
 
--- from a copied field, a copied track, and nothing
-pub by_field : (f before after : Frame) (x : Field) → FieldCopied f before after x → Copied f before after (Value x)
+-- a copied field is a copied part, and so is a copied track
+by_field : (f before after : Frame) (x : Field) → FieldCopied f before after x → Copied f before after (Value x)
 by_field f before after x c = record { mode = c.mode; here = c.here; others = go }
   where
     go : (q : Part) → (q ≡ Value x → ⊥) → PartSame before f q → PartSame after f q
@@ -48,18 +48,27 @@ by_track f before after s t c = record { mode = c.mode; here = c.here; others = 
     go (High i j) ne h = tt
     go (Low i j) ne h = c.others i j (λ a b. ne (ap (λ k. Low k j) a ∙ ap (λ k. Low s k) b)) ∙ h
 
-pub by_none : (f before : Frame) (s t : ℕ) → Copied f before before (High s t)
-by_none f before s t = record { mode = refl; here = tt; others = λ q ne h. h }
-
 -- a field
-pub field_put : {U : Type 0} (b : Content) (f to to' : Frame) (x : Field) (v k : ℕ) (r : Result U Refusal) → Stands b f → to.mode ≡ b.mode → 0 < part_width b.mode (Value x)
-    → k ≡ place_of (Value x) → v ≡ get_or b.values k 0
+pub field_put : {U : Type 0} (b : Content) (f to to' : Frame) (x : Field) (v : ℕ) (r : Result U Refusal) → Stands b f → to.mode ≡ b.mode → 0 < part_width b.mode (Value x)
+    → v ≡ held b (Value x)
     → MatchResult r (λ _. FieldSet to to' x v) (λ e. FieldRefused to to' x v e) → Copied f to to' (Value x)
-field_put b f to to' x v k r st em has ek ev h =
+field_put b f to to' x v r st em has ev h =
     let em' : to.mode ≡ f.mode = em ∙ sym st.mode in
     let has' : 0 < field_bits f x = subst (λ (m : Mode). 0 < width m x) (sym st.mode) has in
-    let ev' : v ≡ value f x = ev ∙ ap (λ j. get_or b.values j 0) ek ∙ sym (st.fields x) in
+    let ev' : v ≡ value f x = ev ∙ sym (st.fields x) in
     by_field f to to' x (field_copied f to to' x v r em' (has', ev') h)
+
+-- a low part that a mode has is narrow
+tested : (m : Mode) → list_all (λ s. leb s.width 16) (plan m) ≡ true
+unfolding plan pulses_in
+tested = by_mode (λ m. list_all (λ s. leb s.width 16) (plan m) ≡ true) refl refl refl refl refl refl refl refl refl
+
+narrow_in : (ss : List Slot) → list_all (λ s. leb s.width 16) ss ≡ true → AllByRecursion (λ s. s.width ≤ 16) ss
+narrow_in [] h = tt
+narrow_in (s ∷ ss) h = let p = and_parts _ _ h in (leb-true s.width 16 p.0, narrow_in ss p.1)
+
+pub low_narrow : (m : Mode) (s t : ℕ) → 0 < part_width m (Low s t) → part_width m (Low s t) ≤ 16
+low_narrow m s t has = plan_part m (λ s. s.width ≤ 16) (Low s t) has (narrow_in (plan m) (tested m))
 
 -- a track: its index is accepted
 track_accepted : (how : Reading) (b : Content) (s t : ℕ) → Fine how b → 0 < pulses_in b.mode s t
@@ -93,38 +102,26 @@ given ps out k r row er few long a f =
 handed_never : (ps : List Pulse) (x : Refusal) (r : Result (List Pulse) Refusal) → r ≡ Ok ps → length ps ≤ 6 → Err x ≡ handed 6 r → ⊥
 handed_never ps x r er few a = never (length ps) x (a ∙ ap (handed 6) er ∙ cond-true (leb (length ps) 6) _ _ (le-leb (length ps) 6 few))
 
-module _ (how : Reading) (b : Content) (s t n M i w p q : ℕ) (fine : Fine how b) (has : 0 < w) (ew : w ≡ part_width b.mode (Low s t)) (en : n ≡ pulses_in b.mode s t) (eM : M ≡ (row b.mode).places) (ep : p ≡ place_of (High s t)) (eq : q ≡ place_of (Low s t)) (ei : i ≡ joined (get_or b.values p 0) w (get_or b.values q 0)) where
+module _ (how : Reading) (b : Content) (s t w l : ℕ) (fine : Fine how b) (has : 0 < w) (ew : w ≡ part_width b.mode (Low s t)) (el : l ≡ held b (Low s t)) where
   some : 0 < pulses_in b.mode s t
   some = low_has b.mode s t (omega (arith, has, ew))
 
-  pub low_fits : get_or b.values q 0 < 2 ^ w
-  low_fits = rw (eq, ew) (fine.fits (Low s t))
-
-  reads : read_index how n M i ≡ Ok (set_in b s t)
-  reads = rw (ei, en, eM, ep, eq, ew) (track_accepted how b s t fine some)
+  reads : track_read how b.mode b.values w l s t ≡ Ok (set_in b s t)
+  reads = rw (el, ew) (track_accepted how b s t fine some)
 
   few_pulses : length (set_in b s t) ≤ 6
-  few_pulses = few how n M i (set_in b s t) reads
+  few_pulses = few how (pulses_in b.mode s t) (row b.mode).places (joined (held b (High s t)) w l) (set_in b s t) reads
 
-  pub never_refused : (x : Refusal) → Err x ≡ handed 6 (read_index how n M i) → ⊥
-  never_refused x a = handed_never (set_in b s t) x (read_index how n M i) reads few_pulses a
+  pub never_refused : (x : Refusal) → Err x ≡ handed 6 (track_read how b.mode b.values w l s t) → ⊥
+  never_refused x a = handed_never (set_in b s t) x (track_read how b.mode b.values w l s t) reads few_pulses a
 
   pub track_put : {U : Type 0} (f to to' : Frame) (k : ℕ) (out rows : List Pulse) (r : Result U Refusal) → Stands b f → to.mode ≡ b.mode → length out ≡ 6
-      → Ok k ≡ handed 6 (read_index how n M i) → rows ≡ filled out (read_index how n M i)
+      → Ok k ≡ handed 6 (track_read how b.mode b.values w l s t) → rows ≡ filled out (track_read how b.mode b.values w l s t)
       → MatchResult r (λ _. TrackSet to to' s t (take (k - 0) rows)) (λ e. TrackRefused to to' s t (take (k - 0) rows) e) → TrackCopied f to to' s t
   track_put f to to' k out rows r st em long a g h =
       let em' : to.mode ≡ f.mode = em ∙ sym st.mode in
       let has' : 0 < count_of f s t = subst (λ (m : Mode). 0 < pulses_in m s t) (sym st.mode) some in
-      track_copied f to to' s t (take (k - 0) rows) r em' has' (given (set_in b s t) out k (read_index how n M i) rows reads few_pulses long a g ∙ sym (st.tracks s t)) h
-
--- the slots of a plan, by their places in it
-all_nth : (P : Slot → Type 0) (ss : List Slot) (k : ℕ) (s : Slot) → AllByRecursion P ss → Some s ≡ nth ss k → P s
-all_nth P [] k s us e = let z : ◌≡◌ {A = ℕ} 0 1 = cc in absurd (omega arith)
-all_nth P (t ∷ ss) zero s us e = let z : t ≡ s = cc in subst P z us.0
-all_nth P (t ∷ ss) (suc k) s us e = all_nth P ss k s us.1 e
-
-pub slot_wide : (m : Mode) (k : ℕ) (s : Slot) → Some s ≡ nth (plan m) k → (0 < s.width) × (s.width ≡ part_width m s.part)
-slot_wide m k s e = all_nth (λ s. (0 < s.width) × (s.width ≡ part_width m s.part)) (plan m) k s (plan_each m (λ s. (0 < s.width) × (s.width ≡ part_width m s.part)) (λ p has. (has, refl))) e
+      track_copied f to to' s t (take (k - 0) rows) r em' has' (given (set_in b s t) out k (track_read how b.mode b.values w l s t) rows reads few_pulses long a g ∙ sym (st.tracks s t)) h
 
 pub away_none : (m : Mode) (p : Part) → Away (place_of p) (plan m) → part_width m p ≡ 0
 away_none m p a =
@@ -151,19 +148,19 @@ none_same f g m (Low s t) ef eg z =
 pub parts_start : (m : Mode) (f g : Frame) → f.mode ≡ m → g.mode ≡ m → (p : Part) → Away (place_of p) (plan m) → PartSame g f p
 parts_start m f g ef eg p a = none_same f g m p ef eg (away_none m p a)
 
-pub parts_more : (m : Mode) (k : ℕ) (s : Slot) (f before after : Frame) → Some s ≡ nth (plan m) k → Copied f before after s.part
-    → ((p : Part) → Away (place_of p) (drop k (plan m)) → PartSame before f p) → (p : Part) → Away (place_of p) (drop (k + 1) (plan m)) → PartSame after f p
-parts_more m k s f before after e c old p a =
-    let w = slot_wide m k s e in
+pub parts_more : (m : Mode) (ss rest : List Slot) (s : Slot) (f before after : Frame) → ss ≡ s ∷ rest → s ≡ slot m s.part → 1 ≤ s.width → Copied f before after s.part
+    → ((p : Part) → Away (place_of p) ss → PartSame before f p) → (p : Part) → Away (place_of p) rest → PartSame after f p
+parts_more m ss rest s f before after e es w c old p a =
+    let wide : s.width ≡ part_width m s.part = ap (λ (s : Slot). s.width) es in
     ⊎_elim
-    (λ i. let P : Part → Type 0 = PartSame after f in subst P (own_place m p s.part (omega (arith, w)) i) c.here)
-    (λ ne. c.others p (λ i. ne (sym (ap place_of i))) (old p (let P : List Slot → Type 0 = Away (place_of p) in subst P (sym (at_some (plan m) k s e)) (ne, a))))
+    (λ i. let P : Part → Type 0 = PartSame after f in subst P (own_place m p s.part (omega (arith, w, wide)) i) c.here)
+    (λ ne. c.others p (λ i. ne (sym (ap place_of i))) (old p (let P : List Slot → Type 0 = Away (place_of p) in subst P (sym e) (ne, a))))
     (cases_eq (place_of s.part) (place_of p))
 
-pub parts_all : (m : Mode) (k : ℕ) (b : Content) (f g : Frame) → None ≡ nth (plan m) k → Stands b f → g.mode ≡ f.mode
-    → ((p : Part) → Away (place_of p) (drop k (plan m)) → PartSame g f p) → Stands b g
-parts_all m k b f g e st em h =
-    let all : (p : Part) → PartSame g f p = λ p. h p (let P : List Slot → Type 0 = Away (place_of p) in subst P (sym (at_none (plan m) k e)) tt) in
+pub parts_all : (ss : List Slot) (b : Content) (f g : Frame) → ss ≡ [] → Stands b f → g.mode ≡ f.mode
+    → ((p : Part) → Away (place_of p) ss → PartSame g f p) → Stands b g
+parts_all ss b f g e st em h =
+    let all : (p : Part) → PartSame g f p = λ p. h p (let P : List Slot → Type 0 = Away (place_of p) in subst P (sym e) tt) in
     subst (Stands b) (sym (frame_ext g f em (λ x. all (Value x)) (λ s t. all (Low s t)))) st
 
 -- the number of a mode tells it

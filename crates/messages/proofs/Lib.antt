@@ -6,9 +6,12 @@ pub mod Nths
 pub mod Planned
 pub mod Placing
 pub mod Fitting
+pub mod Mapped
+pub mod Fined
 pub mod Standing
 pub mod Building
 pub mod Turned
+pub mod Walking
 pub mod Gathering
 pub mod Opened
 pub mod Accepted

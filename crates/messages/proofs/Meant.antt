@@ -12,7 +12,7 @@ use Rattle.frames.specs.declared.frame.Frame.{Frame}
 use Rattle.frames.specs.Bits.{frame_bits}
 use Rattle.frames.proofs.Agreeing.{equal_bits_agree}
 use Rattle.messages.specs.Messages.{Content, next_frame, read_from, read_frames, counted}
-use Rattle.messages.specs.Seen.{nth}
+use Rattle.messages.specs.Contents.{nth}
 use Rattle.messages.specs.Contents.{Stands, Recorded, Returned}
 use Rattle.messages.specs.Written.{as_cells, body, message}
 use Rattle.messages.specs.Laws.{picked, ReturnsFrames, Alike, EqualMessagesAgree}

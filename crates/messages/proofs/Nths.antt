@@ -2,7 +2,7 @@
 use Rattle.std.proofs.Common.{◌≡◌, ℕ, zero, suc, cond, eqb, List, [], ◌∷◌, ◌++◌, length, Some, sym, refl, ap, ◌∙◌, inl, inr, arith}
 use Rattle.std.proofs.lemmas.Bool.{ne_eqb, eq-eqb, cases_eq}
 use Rattle.messages.specs.Messages.{Content}
-use Rattle.messages.specs.Seen.{nth}
+use Rattle.messages.specs.Contents.{nth}
 
 same_next : (j k : ℕ) → eqb j k ≡ eqb (suc j) (suc k)
 same_next j k =

@@ -1,5 +1,6 @@
 -- What is accepted strictly is accepted openly.
 use Rattle.std.proofs.Common.{◌≡◌, ℕ, zero, suc, ◌+◌, List, [], ◌∷◌, ◌++◌, length, get_or, set, Some, None, Ok, Err, Option, Result, sym, refl, ap, ◌∙◌}
+use Rattle.refusals.specs.declared.cause.Cause.{Cause}
 use Rattle.refusals.specs.declared.refusal.Refusal.{Refusal}
 use Rattle.carriers.specs.Cells.{Cell}
 use Rattle.carriers.specs.FieldReading.{read_bits}
@@ -15,8 +16,6 @@ use Rattle.modes.specs.Modes.{row, pulses_in}
 use Rattle.modes.specs.Plan.{plan, total}
 use Rattle.frames.specs.Bits.{place_of}
 use Rattle.messages.proofs.Asked.{by_begun}
-use Rattle.messages.specs.declared.turns.Next.{Next}
-use Rattle.messages.specs.declared.turns.Next.TheVariants.{End, Frame, Refused}
 use Rattle.messages.specs.Messages.{Content, content, and_then, bare, spotted, slot_spot, settled, joined, field, questioned, read_slot, read_slots, blank, next_frame, read_from}
 use Rattle.messages.specs.Asked.{begun, turn}
 use Rattle.messages.specs.Laws.{StrictIsOpen}
@@ -68,11 +67,11 @@ slots_open cs m n at (s ∷ ss) vs us e =
     let p = slots_head Strict cs m n at s ss vs us e in
     slots_cons Open cs m n at s ss vs p.0 (slot_open cs m n at s vs p.0 p.1) ∙ slots_open cs m n (at + s.width) ss (set vs (place_of s.part) p.0) us p.2
 
-turn_open : (cs : List Cell) (n at : ℕ) (k : Next) (o : Option Content) → turn Strict cs n at k ≡ Ok o → turn Open cs n at k ≡ Ok o
+turn_open : (cs : List Cell) (n at : ℕ) (k : Result (Option Mode) Cause) (o : Option Content) → turn Strict cs n at k ≡ Ok o → turn Open cs n at k ≡ Ok o
 unfolding turn
-turn_open cs n at End o e = e
-turn_open cs n at (Refused c) o e = e
-turn_open cs n at (Frame m) o e =
+turn_open cs n at (Ok None) o e = e
+turn_open cs n at (Err c) o e = e
+turn_open cs n at (Ok (Some m)) o e =
     then_first o (read_slots Strict cs m n (at + 4) (plan m) blank) (read_slots Open cs m n (at + 4) (plan m) blank) (λ vs. Ok (Some (content m vs))) (λ vs. slots_open cs m n (at + 4) (plan m) blank vs) e
 
 next_open : (cs : List Cell) (left n at : ℕ) (o : Option Content) → next_frame Strict cs left n at ≡ Ok o → next_frame Open cs left n at ≡ Ok o

@@ -14,7 +14,7 @@ use Rattle.modes.specs.declared.plan.Part.TheVariants.{High}
 use Rattle.modes.specs.Modes.{row, pulses_in}
 use Rattle.frames.specs.Bits.{place_of}
 use Rattle.messages.specs.Messages.{settled, joined}
-use Rattle.messages.specs.Asked.{track_asked}
+use Rattle.messages.specs.Asked.{track_read, track_asked}
 
 -- six pulses have room for every index
 pub few : (how : Reading) (n M i : ℕ) (ps : List Pulse) → read_index how n M i ≡ Ok ps → length ps ≤ 6
@@ -35,21 +35,12 @@ refuses (Ok ps) x h e =
     let z : ◌≡◌ {A = ℕ} 0 1 = cc in absurd (omega arith)
 refuses (Err y) x h e = let z : x ≡ y = cc in ap Err z
 
-pub index_settles : (how : Reading) (n M i k : ℕ) → Ok k ≡ handed 6 (read_index how n M i) → Ok tt ≡ settled (read_index how n M i)
-index_settles how n M i k e = settles (read_index how n M i) k e
-
-pub index_refuses : (how : Reading) (n M i : ℕ) (x : Refusal) → Err x ≡ handed 6 (read_index how n M i) → Err x ≡ settled (read_index how n M i)
-index_refuses how n M i x e = refuses (read_index how n M i) x (few how n M i) e
-
 -- with what the code has
-module _ (how : Reading) (m : Mode) (vs : List ℕ) (s t w v p n M i : ℕ) (at : p ≡ place_of (High s t)) (number : n ≡ pulses_in m s t) (width : M ≡ (row m).places) (index : i ≡ joined (get_or vs p 0) w v) where
-  same : read_index how n M i ≡ read_index how (pulses_in m s t) (row m).places (joined (get_or vs (place_of (High s t)) 0) w v)
-  same = rw (← number, ← width, ← at, ← index)
-
-  pub asks_ok : (k : ℕ) → Ok k ≡ handed 6 (read_index how n M i) → Ok tt ≡ track_asked how m vs w v s t
+module _ (how : Reading) (m : Mode) (vs : List ℕ) (s t w v : ℕ) where
+  pub asks_ok : (k : ℕ) → Ok k ≡ handed 6 (track_read how m vs w v s t) → Ok tt ≡ track_asked how m vs w v s t
   unfolding track_asked
-  asks_ok k e = index_settles how n M i k e ∙ ap settled same
+  asks_ok k e = settles (track_read how m vs w v s t) k e
 
-  pub asks_err : (x : Refusal) → Err x ≡ handed 6 (read_index how n M i) → Err x ≡ track_asked how m vs w v s t
+  pub asks_err : (x : Refusal) → Err x ≡ handed 6 (track_read how m vs w v s t) → Err x ≡ track_asked how m vs w v s t
   unfolding track_asked
-  asks_err x e = index_refuses how n M i x e ∙ ap settled same
+  asks_err x e = refuses (track_read how m vs w v s t) x (few how (pulses_in m s t) (row m).places (joined (get_or vs (place_of (High s t)) 0) w v)) e

@@ -16,8 +16,6 @@ use Rattle.modes.specs.Fields.{part_spot}
 use Rattle.modes.specs.Plan.{plan, total}
 use Rattle.frames.specs.Bits.{place_of}
 use Rattle.messages.proofs.Asked.{by_begun}
-use Rattle.messages.specs.declared.turns.Next.{Next}
-use Rattle.messages.specs.declared.turns.Next.TheVariants.{End, Frame, Refused}
 use Rattle.messages.specs.Messages.{Content, content, and_then, refuse, spot_at, bare, spotted, slot_spot, field, questioned, read_slot, read_slots, blank, filler, ending, next_frame, read_from}
 use Rattle.messages.specs.Asked.{begun, turn}
 use Rattle.messages.specs.Laws.{RefusalsTellWhere}
@@ -76,12 +74,12 @@ ending_told cs n at e h =
     (λ t g. absurd (never tt e (sym g)))
     (λ t g. refuse_told {X = Unit {0}} n at BadFill e g)) h
 
-turn_told : (how : Reading) (cs : List Cell) (n at : ℕ) (k : Next) (e : Refusal) → turn how cs n at k ≡ Err e → Told e
+turn_told : (how : Reading) (cs : List Cell) (n at : ℕ) (k : Result (Option Mode) Cause) (e : Refusal) → turn how cs n at k ≡ Err e → Told e
 unfolding turn
-turn_told how cs n at End e h =
+turn_told how cs n at (Ok None) e h =
     then_told (ending cs n (at + 4)) (λ _. Ok None) e (ending_told cs n (at + 4) e) (λ u g. absurd (never {X = Option Content} None e (sym g))) h
-turn_told how cs n at (Refused c) e h = refuse_told {X = Option Content} n at c e h
-turn_told how cs n at (Frame m) e h =
+turn_told how cs n at (Err c) e h = refuse_told {X = Option Content} n at c e h
+turn_told how cs n at (Ok (Some m)) e h =
     then_told (read_slots how cs m n (at + 4) (plan m) blank) (λ vs. Ok (Some (content m vs))) e (slots_told how cs m n (at + 4) (plan m) blank e) (λ vs g. absurd (never (Some (content m vs)) e (sym g))) h
 
 next_told : (how : Reading) (cs : List Cell) (left n at : ℕ) (e : Refusal) → next_frame how cs left n at ≡ Err e → Told e

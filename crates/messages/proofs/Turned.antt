@@ -2,6 +2,7 @@
 use Rattle.std.proofs.Common.{◌≡◌, ℕ, zero, suc, ◌+◌, ◌<◌, cond, ◌&&◌, eqb, List, [], ◌∷◌, ◌++◌, length, drop, Some, None, Ok, Err, Option, Result, sym, refl, ap, ◌∙◌, subst, ap₂, arith, length-drop}
 use Rattle.std.specs.List.{AllByRecursion}
 use Rattle.std.proofs.lemmas.Bool.{cond_both, eqb-true, eqb-false, and_parts}
+use Rattle.refusals.specs.declared.cause.Cause.{Cause}
 use Rattle.refusals.specs.declared.cause.Cause.TheVariants.{NoSuchMode, TooManyFrames, BadFill}
 use Rattle.refusals.specs.declared.refusal.Refusal.{Refusal}
 use Rattle.carriers.specs.Cells.{Cell}
@@ -14,11 +15,8 @@ use Rattle.modes.specs.declared.mode.Mode.{Mode}
 use Rattle.modes.specs.Modes.{number_of, mode_of}
 use Rattle.modes.specs.Plan.{plan, total}
 use Rattle.messages.proofs.Asked.{by_begun}
-use Rattle.messages.specs.declared.turns.Next.{Next}
-use Rattle.messages.specs.declared.turns.Next.TheVariants.{End, Frame, Refused}
 use Rattle.messages.specs.Messages.{Content, content, refuse, bare, field, filler, ending, read_slots, blank, next_frame, read_from, read_frames}
 use Rattle.messages.specs.Asked.{when_mode, begun, turn}
-use Rattle.messages.specs.Seen.{nth, seen}
 use Rattle.messages.specs.Contents.{Fine}
 use Rattle.messages.proofs.Placing.{then_ok, spotted_ok, spelt, slots_read, frame_fine}
 use Rattle.messages.proofs.Planned.{plan_rises}
@@ -83,15 +81,15 @@ Turned how cs left at None = Ended cs at
 Turned how cs left at (Some f) = Framed how cs left at f
 
 -- what the number of the mode cells is, by what it begins
-abbrev Means : ℕ → ℕ → Next → Type 0
-Means left v End = v ≡ 15
-Means left v (Frame m) = (mode_of v ≡ Some m) × (0 < left)
-Means left v (Refused c) = Unit {0}
+abbrev Means : ℕ → ℕ → Result (Option Mode) Cause → Type 0
+Means left v (Ok None) = v ≡ 15
+Means left v (Ok (Some m)) = (mode_of v ≡ Some m) × (0 < left)
+Means left v (Err c) = Unit {0}
 
-by_mode_means : (left v : ℕ) (o : Option Mode) → mode_of v ≡ o → Means left v (when_mode (Refused NoSuchMode) (λ m. cond (eqb left 0) (Refused TooManyFrames) (Frame m)) o)
+by_mode_means : (left v : ℕ) (o : Option Mode) → mode_of v ≡ o → Means left v (when_mode (Err NoSuchMode) (λ m. cond (eqb left 0) (Err TooManyFrames) (Ok (Some m))) o)
 by_mode_means left v None e = tt
 by_mode_means left v (Some m) e =
-    cond_both (eqb left 0) (Refused TooManyFrames) (Frame m) (Means left v) (λ t. tt) (λ t. (e, more left (eqb-false left 0 t)))
+    cond_both (eqb left 0) (Err TooManyFrames) (Ok (Some m)) (Means left v) (λ t. tt) (λ t. (e, more left (eqb-false left 0 t)))
   where
     more : (k : ℕ) → (k ≡ 0 → ⊥) → 0 < k
     more zero h = absurd (h refl)
@@ -99,21 +97,17 @@ by_mode_means left v (Some m) e =
 
 begun_means : (left v : ℕ) → Means left v (begun left v)
 begun_means left v =
-    cond_both (eqb v 15) End (when_mode (Refused NoSuchMode) (λ m. cond (eqb left 0) (Refused TooManyFrames) (Frame m)) (mode_of v)) (Means left v)
+    cond_both (eqb v 15) (Ok None) (when_mode (Err NoSuchMode) (λ m. cond (eqb left 0) (Err TooManyFrames) (Ok (Some m))) (mode_of v)) (Means left v)
     (λ t. eqb-true v 15 t) (λ t. by_mode_means left v (mode_of v) refl)
 
--- a frame is begun only where one more may come
-pub begun_frame : (left v : ℕ) (m : Mode) → Frame m ≡ begun left v → 0 < left
-begun_frame left v m e = let P : Next → Type 0 = Means left v in (subst P (sym e) (begun_means left v)).1
-
-turn_means : (how : Reading) (cs : List Cell) (left n at v : ℕ) (o : Option Content) (k : Next) → Means left v k → drop at cs ≡ bits_of 4 v ++ drop (at + 4) cs → turn how cs n at k ≡ Ok o → Turned how cs left at o
+turn_means : (how : Reading) (cs : List Cell) (left n at v : ℕ) (o : Option Content) (k : Result (Option Mode) Cause) → Means left v k → drop at cs ≡ bits_of 4 v ++ drop (at + 4) cs → turn how cs n at k ≡ Ok o → Turned how cs left at o
 unfolding Turned turn
-turn_means how cs left n at v o End i f e =
+turn_means how cs left n at v o (Ok None) i f e =
     let q = then_ok (ending cs n (at + 4)) (λ _. Ok None) o e in
     let is : Ended cs at = record { cells = f ∙ ap₂ (λ (x : ℕ) (xs : List Cell). bits_of 4 x ++ xs) i (ended cs n (at + 4) q.0 q.1) } in
     subst (Turned how cs left at) (ok_is None o q.2) is
-turn_means how cs left n at v o (Refused c) i f e = absurd (never o _ e)
-turn_means how cs left n at v o (Frame m) i f e =
+turn_means how cs left n at v o (Err c) i f e = absurd (never o _ e)
+turn_means how cs left n at v o (Ok (Some m)) i f e =
     let p = then_ok (read_slots how cs m n (at + 4) (plan m) blank) (λ vs. Ok (Some (content m vs))) o e in
     let vs = p.0 in
     let w = slots_read how cs m n (at + 4) (plan m) blank vs 0 refl (plan_rises m) p.1 in
@@ -135,9 +129,6 @@ turned_fine : (how : Reading) (cs : List Cell) (left at : ℕ) (f : Content) →
 unfolding Turned
 turned_fine how cs left at f t = t.fine
 
-pub next_fine : (how : Reading) (cs : List Cell) (left n at : ℕ) (f : Content) → Ok (Some f) ≡ next_frame how cs left n at → Fine how f
-next_fine how cs left n at f e = turned_fine how cs left at f (turned how cs left n at (Some f) (sym e))
-
 all_push : {X : Type 0} (P : X → Type 0) (xs : List X) (x : X) → AllByRecursion P xs → P x → AllByRecursion P (xs ++ x ∷ [])
 all_push P [] x us u = (u, tt)
 all_push P (y ∷ xs) x us u = (us.0, all_push P xs x us.1 u)
@@ -158,18 +149,3 @@ from_fine how cs (suc left) at before bs us e =
 
 pub frames_fine : (how : Reading) (cs : List Cell) (bs : List Content) → read_frames how cs ≡ Ok bs → AllByRecursion (Fine how) bs
 frames_fine how cs bs e = from_fine how cs 512 0 [] bs tt e
-
-nth_all : (P : Content → Type 0) (bs : List Content) (n : ℕ) (b : Content) → AllByRecursion P bs → nth bs n ≡ Some b → P b
-nth_all P [] n b us e = let z : ◌≡◌ {A = ℕ} 0 1 = cc in absurd (omega arith)
-nth_all P (c ∷ bs) zero b us e = let z : c ≡ b = cc in subst P z us.0
-nth_all P (c ∷ bs) (suc n) b us e = nth_all P bs n b us.1 e
-
--- the frame that was kept is fine
-kept_fine : (how : Reading) (r : Result (List Content) Refusal) (n k : ℕ) (o : Option Content) (b : Content) → ((bs : List Content) → r ≡ Ok bs → AllByRecursion (Fine how) bs) → Ok (k, o) ≡ seen n r → o ≡ Some b → Fine how b
-kept_fine how (Ok bs) n k o b h e i =
-    let q : o ≡ nth bs n = ap (λ (x : ℕ × Option Content). x.1) (ok_is (k, o) (length bs, nth bs n) e) in
-    nth_all (Fine how) bs n b (h bs refl) (sym q ∙ i)
-kept_fine how (Err d) n k o b h e i = absurd (never (k, o) d (sym e))
-
-pub seen_fine : (how : Reading) (cs : List Cell) (n k : ℕ) (o : Option Content) (b : Content) → Ok (k, o) ≡ seen n (read_frames how cs) → o ≡ Some b → Fine how b
-seen_fine how cs n k o b e i = kept_fine how (read_frames how cs) n k o b (frames_fine how cs) e i

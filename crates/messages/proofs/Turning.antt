@@ -8,8 +8,6 @@ use Rattle.pulses.specs.declared.index.Reading.{Reading}
 use Rattle.modes.specs.declared.mode.Mode.{Mode}
 use Rattle.modes.specs.Plan.{plan, total}
 use Rattle.messages.proofs.Asked.{by_begun}
-use Rattle.messages.specs.declared.turns.Next.{Next}
-use Rattle.messages.specs.declared.turns.Next.TheVariants.{End, Frame, Refused}
 use Rattle.messages.specs.Messages.{Content, content, and_then, bare, field, ending, read_slots, blank, next_frame, by_next, read_from}
 use Rattle.messages.specs.Asked.{begun, turn}
 
@@ -20,7 +18,7 @@ module _ (how : Reading) (cs : List Cell) (left n at : ℕ) (p : Spot) (e : p �
   pub turn_stop : (x : Refusal) → Err x ≡ field cs p at 4 → Err x ≡ next_frame how cs left n at
   turn_stop x f = ap (λ (r : Result ℕ Refusal). and_then r (λ v. turn how cs n at (begun left v))) (sym (here f)) ∙ sym (by_begun how cs n at left)
 
-  pub turn_by : (v : ℕ) (k : Next) → Ok v ≡ field cs p at 4 → k ≡ begun left v → turn how cs n at k ≡ next_frame how cs left n at
+  pub turn_by : (v : ℕ) (k : Result (Option Mode) Cause) → Ok v ≡ field cs p at 4 → k ≡ begun left v → turn how cs n at k ≡ next_frame how cs left n at
   turn_by v k f h =
       ap (turn how cs n at) h
       ∙ ap (λ (r : Result ℕ Refusal). and_then r (λ v. turn how cs n at (begun left v))) (sym (here f))
@@ -28,15 +26,15 @@ module _ (how : Reading) (cs : List Cell) (left n at : ℕ) (p : Spot) (e : p �
 
 -- a turn, by what the mode cells began
 module _ (how : Reading) (cs : List Cell) (n at : ℕ) where
-  pub turn_end : (r : Result (Unit {0}) Refusal) → r ≡ ending cs n (at + 4) → and_then r (λ _. Ok None) ≡ turn how cs n at End
+  pub turn_end : (r : Result (Unit {0}) Refusal) → r ≡ ending cs n (at + 4) → and_then r (λ _. Ok None) ≡ turn how cs n at (Ok None)
   unfolding turn
   turn_end r h = ap (λ (x : Result (Unit {0}) Refusal). and_then x (λ _. Ok None)) h
 
-  pub turn_refuse : (c : Cause) (p : Spot) → p ≡ bare n at → Err (record { cause = c; spot = p }) ≡ turn how cs n at (Refused c)
+  pub turn_refuse : (c : Cause) (p : Spot) → p ≡ bare n at → Err (record { cause = c; spot = p }) ≡ turn how cs n at (Err c)
   unfolding turn
   turn_refuse c p e = ap (λ (q : Spot). Err (record { cause = c; spot = q })) e
 
-  pub turn_frame : (m : Mode) (r : Result (List ℕ) Refusal) → r ≡ read_slots how cs m n (at + 4) (plan m) blank → and_then r (λ vs. Ok (Some (content m vs))) ≡ turn how cs n at (Frame m)
+  pub turn_frame : (m : Mode) (r : Result (List ℕ) Refusal) → r ≡ read_slots how cs m n (at + 4) (plan m) blank → and_then r (λ vs. Ok (Some (content m vs))) ≡ turn how cs n at (Ok (Some m))
   unfolding turn
   turn_frame m r h = ap (λ (x : Result (List ℕ) Refusal). and_then x (λ vs. Ok (Some (content m vs)))) h
 

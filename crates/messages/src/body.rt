@@ -1,17 +1,12 @@
-use modes::mode::Mode;
+ghost use Rattle.messages.specs.Contents.{IsFine};
 
-/// A frame as it stands in a message: its mode, the values of its parts by
-/// their places, and the cell after it.
+use crate::parts::Parts;
+
+/// A frame as it stands in a message: its parts, all of which are accepted,
+/// and the cell after it.
 #[derive(Clone, Copy)]
-pub struct Body {
-    pub mode: Mode,
-    pub values: [u16; 57],
+pub(crate) struct Body {
+    pub parts: Parts,
     pub end: usize,
-}
-
-/// How many frames a message has, and one of them.
-#[derive(Clone, Copy)]
-pub struct Scan {
-    pub count: u32,
-    pub frame: Option<Body>,
+    ghost fine: { IsFine parts.how parts.mode parts.values },
 }

@@ -6,9 +6,12 @@
 
 /// Why the frames of a message are not handed out.
 pub mod error;
-/// What is kept of a frame while its message is read.
+/// The parts of a frame, by their places.
+mod parts;
+/// A frame that was read.
 mod body;
-/// The fields of a message, and the spots that their refusals tell.
+/// Where reading stands, the fields there, and the spots that their refusals
+/// tell.
 mod fields;
 /// The slots of a frame, one after the other.
 mod slots;
@@ -18,3 +21,5 @@ mod turns;
 mod records;
 /// The calls: a message read, a frame of it returned.
 pub mod reading;
+
+pub use fields::filler;

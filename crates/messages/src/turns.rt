@@ -1,127 +1,112 @@
-ghost use Rattle.std.specs.Prelude.{◌≡◌, ◌-◌, ◌<◌, ◌≤◌, length, if◌then◌else◌, Some, nat_eq};
-ghost use Rattle.messages.specs.Messages.{read_frames, next_frame};
+ghost use Rattle.std.specs.Prelude.{◌≡◌, ◌-◌, ◌<◌, length};
+ghost use Rattle.std.specs.Iterator.{at_most};
+ghost use Rattle.std.specs.Option.{option_map, option_map_or};
+ghost use Rattle.messages.specs.Messages.{next_frame};
 ghost use Rattle.messages.specs.Asked.{begun as begun_by};
-ghost use Rattle.messages.specs.Seen.{framed, framed_of, told, seen};
-ghost use Rattle.messages.specs.Turn.{Onward};
-ghost use Rattle.messages.specs.Gathered.{Gathered};
 
-use crate::body::{Body, Scan};
-use crate::error::ReadError;
-use crate::fields::{bare, ending, field};
-use crate::records::built_from;
-use crate::slots::read_slots;
+use crate::body::Body;
+use crate::fields::Cursor;
 use carriers::traits::ReadCarrier;
-use frames::frame::Frame;
 use modes::mode::Mode;
 use pulses::index::Reading;
 use refusals::cause::Cause;
-use refusals::refusal::Refusal;
-use std::alloc::Global;
+use refusals::refusal::{Refusal, Spot};
 
 /// The most frames that a message can have.
 const MAX_FRAMES: u32 = 512;
 
-/// What the number in the mode cells begins.
-#[derive(Clone, Copy)]
-pub enum Next {
-    /// The end of the message.
-    End,
-    /// A frame.
-    Frame(Mode),
-    /// Nothing that is accepted.
-    Refused(Cause),
+/// The frames of a message, one after the other, as far as they are accepted.
+#[derive(Drop)]
+pub(crate) struct Turns<'a, R: ReadCarrier> {
+    how: Reading,
+    next: Option<Cursor<'a, R>>,
 }
 
-/// What `number` begins, where `left` more frames may come.
-fn begun(number: u32, left: u32) -> Next
+/// What `number` begins, where `left` more frames may come: a frame, or
+/// nothing where the message ends.
+fn begun(number: u16, left: u32) -> Result<Option<Mode>, Cause>
     requires { number < 16 }
     ensures { result ≡ begun_by left number }
 {
     if number == 15 {
-        return Next::End;
+        return Ok(None);
     }
-    match Mode::from_number(number as u8) {
-        None => Next::Refused(Cause::NoSuchMode),
-        Some(mode) => if left == 0 {
-            Next::Refused(Cause::TooManyFrames)
-        } else {
-            Next::Frame(mode)
-        },
-    }
-}
-
-/// The frame that begins at a cell, or nothing where the message ends.
-fn next_frame<R: ReadCarrier>(
-    how: Reading,
-    carrier: &R,
-    n: u32,
-    at: usize,
-) -> Result<Option<Body>, Refusal>
-    requires few { n ≤ 512 }
-    requires inside { at ≤ length (R.cells carrier.now) }
-    ensures is { framed_of result ≡ next_frame how (R.cells carrier.now) (512 - n) n at }
-    ensures on { Onward (length (R.cells carrier.now)) n at result }
-{
-    let spot = bare(n, at);
-    let number = field(carrier, spot, at, 4)?;
-    match begun(number, MAX_FRAMES - n) {
-        Next::End => {
-            ending(carrier, n, at + 4)?;
-            Ok(None)
-        }
-        Next::Refused(cause) => Err(Refusal { cause, spot }),
-        Next::Frame(mode) => {
-            let body = read_slots(how, carrier, mode, n, at + 4)?;
-            Ok(Some(body))
-        }
-    }
-}
-
-/// The frame kept so far, or this one where it is the one wanted.
-fn kept(frame: Option<Body>, n: u32, wanted: usize, body: Body) -> Option<Body>
-    ensures { framed result ≡ (if nat_eq n wanted then framed (Some body) else framed frame) }
-{
-    if n as usize == wanted {
-        Some(body)
+    let mode = Mode::try_from(number as u8)?;
+    if left == 0 {
+        Err(Cause::TooManyFrames)
     } else {
-        frame
+        Ok(Some(mode))
     }
 }
 
-/// Reads a message and keeps one of its frames.
-pub(crate) fn scan<R: ReadCarrier>(
-    how: Reading,
-    carrier: &R,
-    wanted: usize,
-) -> Result<Scan, Refusal>
-    ensures { told result ≡ seen wanted (read_frames how (R.cells carrier.now)) }
-{
-    let mut frame = None;
-    let mut n = 0u32;
-    let mut at = 0usize;
-    while let Some(body) = next_frame(how, carrier, n, at)? {
-        frame = kept(frame, n, wanted, body);
-        at = body.end;
-        n += 1;
+impl<'a, R: ReadCarrier> Cursor<'a, R> {
+    ghost use Rattle.messages.specs.Seen.{framed_of};
+    ghost use Rattle.messages.specs.Turn.{Onward};
+
+    /// The frame that begins here, or nothing where the message ends.
+    fn turn(&self, how: Reading) -> Result<Option<Body>, Refusal>
+        ensures is { framed_of result ≡ next_frame how (R.cells self.now.carrier.now) (512 - self.now.frame) self.now.frame self.now.at }
+        ensures on { Onward (length (R.cells self.now.carrier.now)) self.now.frame self.now.at result }
+    {
+        let spot = self.spot(Spot::nowhere());
+        let number = self.field(spot, 4)?;
+        let behind = self.behind(4);
+        let left = MAX_FRAMES - self.frame;
+        match begun(number, left).map_err(|cause| Refusal { cause, spot })? {
+            None => {
+                behind.ending()?;
+                Ok(None)
+            }
+            Some(mode) => Ok(Some(behind.body(how, mode)?)),
+        }
     }
-    Ok(Scan { count: n, frame })
 }
 
-/// Reads a message and keeps all of its frames.
-pub(crate) fn gather<R: ReadCarrier>(
-    how: Reading,
-    carrier: &R,
-    heap: Global,
-) -> Result<Vec<Frame>, ReadError>
-    ensures { Gathered (read_frames how (R.cells carrier.now)) result }
-{
-    let mut frames = Vec::new(heap);
-    let mut n = 0u32;
-    let mut at = 0usize;
-    while let Some(body) = next_frame(how, carrier, n, at)? {
-        frames.push(built_from(how, &body))?;
-        at = body.end;
-        n += 1;
+impl<'a, R: ReadCarrier> Turns<'a, R> {
+    ghost use Rattle.messages.specs.Turn.{beginning};
+
+    /// The frames of the message that a carrier has.
+    pub(crate) fn new(how: Reading, carrier: &'a R) -> Turns<'a, R>
+        ensures { option_map (λ h. record { how = result.how; cells = R.cells h.carrier.now; frame = h.frame; at = h.at }) result.next ≡ Some (beginning how (R.cells carrier.now)) }
+    {
+        let start = Cursor {
+            carrier,
+            frame: 0,
+            at: 0,
+        };
+        Turns {
+            how,
+            next: Some(start),
+        }
     }
-    Ok(frames)
+}
+
+impl<'a, R: ReadCarrier> Iterator for Turns<'a, R> {
+    ghost use Rattle.messages.specs.Turn.{Walks};
+
+    type Item = Result<Body, Refusal>;
+
+    // Where a walk stands is said in full in each place: a definition of it
+    // would take the carrier's type and its laws as arguments.
+    ghost next_gives = { λ s r t. Walks
+        (option_map (λ h. record { how = s.how; cells = R.cells h.carrier.now; frame = h.frame; at = h.at }) s.next) r
+        (option_map (λ h. record { how = t.how; cells = R.cells h.carrier.now; frame = h.frame; at = h.at }) t.next) };
+
+    ghost remaining = { λ s. at_most (option_map_or (λ h. 513 - h.frame) s.next 0) };
+
+    fn next(&mut self) -> Option<Result<Body, Refusal>> {
+        let here = self.next.take()?;
+        match here.turn(self.how) {
+            Ok(Some(body)) => {
+                self.next = Some(Cursor {
+                    carrier: here.carrier,
+                    frame: here.frame + 1,
+                    at: body.end,
+                });
+                Some(Ok(body))
+            }
+            Ok(None) => None,
+            Err(e) => Some(Err(e)),
+        }
+    }
 }

@@ -19,7 +19,7 @@ nth_past [] k h = refl
 nth_past (s ∷ ss) zero h = absurd (omega arith)
 nth_past (s ∷ ss) (suc k) h = nth_past ss k (omega arith)
 
-few : (m : Mode) → length (plan m) ≤ 56
+pub few : (m : Mode) → length (plan m) ≤ 56
 unfolding plan pulses_in
 few = by_mode (λ m. length (plan m) ≤ 56) (lit≤ tt) (lit≤ tt) (lit≤ tt) (lit≤ tt) (lit≤ tt) (lit≤ tt) (lit≤ tt) (lit≤ tt) (lit≤ tt)
 

@@ -1,5 +1,5 @@
 -- What holds of each mode, by computing it.
-use Rattle.std.proofs.Common.{◌≡◌, ℕ, zero, suc, ◌<◌, ◌≤◌, Bool, true, false, ltb, leb, ◌⊎◌, List, [], ◌∷◌, length, get_or, refl, inl, inr, ⊎_elim, arith, lit≤, leb-true}
+use Rattle.std.proofs.Common.{◌≡◌, ℕ, zero, suc, ◌+◌, ◌<◌, ◌≤◌, cond, Bool, true, false, ltb, leb, ◌⊎◌, List, [], ◌∷◌, length, get_or, refl, inl, inr, ⊎_elim, arith, lit≤, leb-true}
 use Rattle.std.specs.List.{list_all}
 use Rattle.std.proofs.lemmas.Bool.{and_parts, cases_lt}
 use Rattle.std.proofs.lemmas.List.{get_or_past}
@@ -8,7 +8,7 @@ use Rattle.modes.specs.declared.mode.Mode.{Mode}
 use Rattle.modes.specs.declared.mode.Mode.TheVariants.{Rate6k60, Rate8k85, Rate12k65, Rate14k25, Rate15k85, Rate18k25, Rate19k85, Rate23k05, Rate23k85}
 use Rattle.modes.specs.Modes.{row, pulses_in}
 use Rattle.modes.specs.Plan.{plan, total, Totals}
-use Rattle.modes.specs.Places.{size}
+use Rattle.modes.specs.Places.{cuts, each, size}
 
 pub by_mode : (P : Mode → Type 0) → P Rate6k60 → P Rate8k85 → P Rate12k65 → P Rate14k25 → P Rate15k85 → P Rate18k25 → P Rate19k85 → P Rate23k05 → P Rate23k85 → (m : Mode) → P m
 by_mode P a b c d e f g h i Rate6k60 = a
@@ -69,3 +69,7 @@ pulses_in_has m s t h = (
   ⊎_elim (λ l. l) (λ l. absurd (omega (arith, pulses_in_none m s t (inl l)))) (cases_lt s 4),
   ⊎_elim (λ l. l) (λ l. absurd (omega (arith, pulses_in_none m s t (inr l)))) (cases_lt t 4),
 )
+
+-- the slots of a subframe: delay, filter flag, high parts, low parts, gain, gain of the high band
+pub each_counted : (m : Mode) → 2 + (row m).filter + cuts m + (row m).tracks + cond (ltb 0 (row m).band) 1 0 ≡ each m
+each_counted = by_mode (λ m. 2 + (row m).filter + cuts m + (row m).tracks + cond (ltb 0 (row m).band) 1 0 ≡ each m) refl refl refl refl refl refl refl refl refl

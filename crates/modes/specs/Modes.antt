@@ -2,6 +2,7 @@
 --   number_of m   what a mode stands for: its number, 0 to 8
 --   modes         the modes, by their numbers
 --   mode_of n     the mode with the number n, if there is one
+--   Numbered n r  the answer r for the number n: the mode with it, or that there is none, and n is no number 0 to 8
 --   row m         what the mode m gives a frame; 0 bits or 0 pulses: the mode has no such field or track
 --     spectrum        the bits of spectrum fields 0 to 6
 --     delays          the bits of the delays of subframes 0 to 3
@@ -12,7 +13,9 @@
 --     places          the width of a track: it has 2 ^ places places
 --     tracks          how many tracks share a subframe's samples: place p of track t is sample p * tracks + t
 --   pulses_in m s t   the pulses of track t of subframe s
-use Rattle.std.specs.Prelude.{ℕ, zero, suc, cond, List, [], ◌∷◌, Some, None, Option, nat_lt, slice_index}
+use Rattle.std.specs.Prelude.{◌≡◌, ℕ, zero, suc, ◌≤◌, cond, List, [], ◌∷◌, Some, None, Option, Ok, Err, Result, nat_lt, slice_index}
+use Rattle.refusals.specs.declared.cause.Cause.{Cause}
+use Rattle.refusals.specs.declared.cause.Cause.TheVariants.{NoSuchMode}
 use Rattle.modes.specs.declared.mode.Mode.{Mode}
 use Rattle.modes.specs.declared.mode.Mode.TheVariants.{Rate6k60, Rate8k85, Rate12k65, Rate14k25, Rate15k85, Rate18k25, Rate19k85, Rate23k05, Rate23k85}
 
@@ -37,6 +40,10 @@ nth (m ∷ ms) (suc n) = nth ms n
 
 abbrev pub mode_of : ℕ → Option Mode
 mode_of n = nth modes n
+
+abbrev pub Numbered : ℕ → Result Mode Cause → Type 0
+Numbered n (Ok m) = (Some m ≡ mode_of n) × (number_of m ≡ n)
+Numbered n (Err c) = (c ≡ NoSuchMode) × (None ≡ mode_of n) × (9 ≤ n)
 
 pub record Row : Type 0 where
   pub spectrum : List ℕ

@@ -25,6 +25,8 @@ pub const CELLS: usize = 24;
 
 impl Field {
     /// The cell of the field in a record, or `CELLS` where no record has it.
+    // An index past the last, as a slice's length is: callers index by it where
+    // the mode has the field, and an Option would give each an arm that never runs.
     pub fn cell(self) -> usize
         ensures { result ≡ cell_of self }
     {
@@ -60,10 +62,8 @@ impl Field {
             Field::Voice | Field::Spectrum(_) => Spot::nowhere(),
             Field::Delay(s) | Field::FilterFlag(s) | Field::Gain(s) | Field::HighBandGain(s) =>
                 Spot {
-                    frame: None,
                     subframe: Some(s),
-                    track: None,
-                    cell: None,
+                    ..Spot::nowhere()
                 },
         }
     }

@@ -8,3 +8,5 @@ pub mod mode;
 pub mod field;
 /// The plan of a mode: its slots in the order of their bits.
 pub mod plan;
+/// Going over a plan.
+pub mod slots;

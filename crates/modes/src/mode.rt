@@ -1,5 +1,8 @@
-ghost use Rattle.std.specs.Prelude.{◌≡◌, ◌≤◌, Some, None};
-ghost use Rattle.modes.specs.Modes.{number_of, mode_of, row};
+ghost use Rattle.std.specs.Prelude.{◌≡◌, ◌≤◌};
+ghost use Rattle.modes.specs.Modes.{number_of, Numbered, row};
+ghost use Rattle.modes.specs.Places.{heads, cuts};
+
+use refusals::cause::Cause;
 
 /// A mode of the codec, by its bit rate in kbit/s.
 #[derive(Clone, Copy, PartialEq, Eq, Debug)]
@@ -15,12 +18,53 @@ pub enum Mode {
     Rate23k85,
 }
 
-impl Mode {
-    /// The mode's number: `Mode::Rate12k65.number()` is 2.
-    pub fn number(self) -> u8
-        ensures { result ≡ number_of self }
-    {
-        match self {
+/// What a mode gives a frame: bits of fields and pulses of tracks, 0 where it
+/// lacks them, and how its plan is laid out.
+#[derive(Clone, Copy)]
+pub(crate) struct Row {
+    /// The bits of spectrum fields 0 to 6.
+    pub(crate) spectrum: [u8; 7],
+    /// The bits of the delays of subframes 0 to 3.
+    pub(crate) delays: [u8; 4],
+    /// The bits of a subframe's filter flag.
+    pub(crate) filter_flag: u8,
+    /// The bits of a subframe's gain.
+    pub(crate) gain: u8,
+    /// The bits of a subframe's high band gain.
+    pub(crate) high_band: u8,
+    /// The pulses of tracks 0 to 3.
+    pub(crate) pulses: [u8; 4],
+    /// The width of a track: it has 2^width places.
+    pub(crate) track_width: u8,
+    /// How many tracks share a subframe's samples.
+    pub(crate) tracks: usize,
+    /// How many slots of the plan stand before the subframes.
+    pub(crate) heads: usize,
+    /// How many high parts a subframe has.
+    pub(crate) cuts: usize,
+}
+
+/// The row of 23.05 kbit/s; those of the other modes from 12.65 kbit/s on
+/// differ from it in pulses, in high parts or in the gain of the high band.
+const UPPER: Row = Row {
+    spectrum: [8, 8, 6, 7, 7, 5, 5],
+    delays: [9, 6, 9, 6],
+    filter_flag: 1,
+    gain: 7,
+    high_band: 0,
+    pulses: [6, 6, 6, 6],
+    track_width: 4,
+    tracks: 4,
+    heads: 8,
+    cuts: 4,
+};
+
+/// The mode's number, 0 to 8: `u8::from(Mode::Rate12k65)` is 2.
+impl From<Mode> for u8 {
+    ghost from_gives = { λ m n. n ≡ number_of m };
+
+    fn from(mode: Mode) -> u8 {
+        match mode {
             Mode::Rate6k60 => 0,
             Mode::Rate8k85 => 1,
             Mode::Rate12k65 => 2,
@@ -32,122 +76,95 @@ impl Mode {
             Mode::Rate23k85 => 8,
         }
     }
+}
 
-    /// The mode with a number, if it is 0 to 8.
-    pub fn from_number(number: u8) -> Option<Mode>
-        ensures is { result ≡ mode_of number }
-        ensures told { elim result [ Some m ↦ number_of m ≡ number | None ↦ 9 ≤ number ] }
-    {
+/// The mode with a number: `Mode::try_from(2)` is `Ok(Mode::Rate12k65)`.
+///
+/// Refused where the number is not 0 to 8 (`Cause::NoSuchMode`).
+impl TryFrom<u8> for Mode {
+    type Error = Cause;
+
+    ghost try_from_gives = { Numbered };
+
+    fn try_from(number: u8) -> Result<Mode, Cause> {
         match number {
-            0 => Some(Mode::Rate6k60),
-            1 => Some(Mode::Rate8k85),
-            2 => Some(Mode::Rate12k65),
-            3 => Some(Mode::Rate14k25),
-            4 => Some(Mode::Rate15k85),
-            5 => Some(Mode::Rate18k25),
-            6 => Some(Mode::Rate19k85),
-            7 => Some(Mode::Rate23k05),
-            8 => Some(Mode::Rate23k85),
-            _ => None,
+            0 => Ok(Mode::Rate6k60),
+            1 => Ok(Mode::Rate8k85),
+            2 => Ok(Mode::Rate12k65),
+            3 => Ok(Mode::Rate14k25),
+            4 => Ok(Mode::Rate15k85),
+            5 => Ok(Mode::Rate18k25),
+            6 => Ok(Mode::Rate19k85),
+            7 => Ok(Mode::Rate23k05),
+            8 => Ok(Mode::Rate23k85),
+            _ => Err(Cause::NoSuchMode),
         }
     }
+}
 
-    /// The bits of spectrum fields 0 to 6; 0 for a field that the mode lacks.
-    pub(crate) fn spectrum(self) -> [u8; 7]
-        ensures { result ≡ (row self).spectrum }
+impl Mode {
+    /// What the mode gives a frame.
+    pub(crate) fn row(self) -> Row
+        ensures spectrum { result.spectrum ≡ (row self).spectrum }
+        ensures delays { result.delays ≡ (row self).delays }
+        ensures filter_flag { result.filter_flag ≡ (row self).filter }
+        ensures gain { result.gain ≡ (row self).gain }
+        ensures high_band { result.high_band ≡ (row self).band }
+        ensures pulses { result.pulses ≡ (row self).pulses }
+        ensures track_width { result.track_width ≡ (row self).places }
+        ensures tracks { result.tracks ≡ (row self).tracks }
+        ensures heads { result.heads ≡ heads self }
+        ensures cuts { result.cuts ≡ cuts self }
     {
         match self {
-            Mode::Rate6k60 => [8, 8, 7, 7, 6, 0, 0],
-            Mode::Rate8k85
-            | Mode::Rate12k65
-            | Mode::Rate14k25
-            | Mode::Rate15k85
-            | Mode::Rate18k25
-            | Mode::Rate19k85
-            | Mode::Rate23k05
-            | Mode::Rate23k85 => [8, 8, 6, 7, 7, 5, 5],
-        }
-    }
-
-    /// The bits of the delays of subframes 0 to 3.
-    pub(crate) fn delays(self) -> [u8; 4]
-        ensures { result ≡ (row self).delays }
-    {
-        match self {
-            Mode::Rate6k60 => [8, 5, 5, 5],
-            Mode::Rate8k85 => [8, 5, 8, 5],
-            Mode::Rate12k65
-            | Mode::Rate14k25
-            | Mode::Rate15k85
-            | Mode::Rate18k25
-            | Mode::Rate19k85
-            | Mode::Rate23k05
-            | Mode::Rate23k85 => [9, 6, 9, 6],
-        }
-    }
-
-    /// The bits of a subframe's filter flag; 0 in a mode without it.
-    pub(crate) fn filter_flag(self) -> u8
-        ensures { result ≡ (row self).filter }
-    {
-        match self {
-            Mode::Rate6k60 | Mode::Rate8k85 => 0,
-            Mode::Rate12k65
-            | Mode::Rate14k25
-            | Mode::Rate15k85
-            | Mode::Rate18k25
-            | Mode::Rate19k85
-            | Mode::Rate23k05
-            | Mode::Rate23k85 => 1,
-        }
-    }
-
-    /// The bits of a subframe's gain.
-    pub(crate) fn gain(self) -> u8
-        ensures { result ≡ (row self).gain }
-    {
-        match self {
-            Mode::Rate6k60 | Mode::Rate8k85 => 6,
-            Mode::Rate12k65
-            | Mode::Rate14k25
-            | Mode::Rate15k85
-            | Mode::Rate18k25
-            | Mode::Rate19k85
-            | Mode::Rate23k05
-            | Mode::Rate23k85 => 7,
-        }
-    }
-
-    /// The bits of a subframe's high band gain; 0 in a mode without it.
-    pub(crate) fn high_band(self) -> u8
-        ensures { result ≡ (row self).band }
-    {
-        match self {
-            Mode::Rate23k85 => 4,
-            Mode::Rate6k60
-            | Mode::Rate8k85
-            | Mode::Rate12k65
-            | Mode::Rate14k25
-            | Mode::Rate15k85
-            | Mode::Rate18k25
-            | Mode::Rate19k85
-            | Mode::Rate23k05 => 0,
-        }
-    }
-
-    /// The pulses of tracks 0 to 3; 0 for a track that the mode lacks.
-    pub(crate) fn pulses(self) -> [u8; 4]
-        ensures { result ≡ (row self).pulses }
-    {
-        match self {
-            Mode::Rate6k60 => [1, 1, 0, 0],
-            Mode::Rate8k85 => [1, 1, 1, 1],
-            Mode::Rate12k65 => [2, 2, 2, 2],
-            Mode::Rate14k25 => [3, 3, 2, 2],
-            Mode::Rate15k85 => [3, 3, 3, 3],
-            Mode::Rate18k25 => [4, 4, 4, 4],
-            Mode::Rate19k85 => [5, 5, 4, 4],
-            Mode::Rate23k05 | Mode::Rate23k85 => [6, 6, 6, 6],
+            Mode::Rate6k60 => Row {
+                spectrum: [8, 8, 7, 7, 6, 0, 0],
+                delays: [8, 5, 5, 5],
+                filter_flag: 0,
+                gain: 6,
+                high_band: 0,
+                pulses: [1, 1, 0, 0],
+                track_width: 5,
+                tracks: 2,
+                heads: 6,
+                cuts: 0,
+            },
+            Mode::Rate8k85 => Row {
+                delays: [8, 5, 8, 5],
+                filter_flag: 0,
+                gain: 6,
+                pulses: [1, 1, 1, 1],
+                cuts: 0,
+                ..UPPER
+            },
+            Mode::Rate12k65 => Row {
+                pulses: [2, 2, 2, 2],
+                cuts: 0,
+                ..UPPER
+            },
+            Mode::Rate14k25 => Row {
+                pulses: [3, 3, 2, 2],
+                cuts: 0,
+                ..UPPER
+            },
+            Mode::Rate15k85 => Row {
+                pulses: [3, 3, 3, 3],
+                cuts: 0,
+                ..UPPER
+            },
+            Mode::Rate18k25 => Row {
+                pulses: [4, 4, 4, 4],
+                ..UPPER
+            },
+            Mode::Rate19k85 => Row {
+                pulses: [5, 5, 4, 4],
+                ..UPPER
+            },
+            Mode::Rate23k05 => UPPER,
+            Mode::Rate23k85 => Row {
+                high_band: 4,
+                ..UPPER
+            },
         }
     }
 
@@ -156,17 +173,7 @@ impl Mode {
         ensures is { result ≡ (row self).places }
         ensures small { (result ≤ 5) × (4 ≤ result) }
     {
-        match self {
-            Mode::Rate6k60 => 5,
-            Mode::Rate8k85
-            | Mode::Rate12k65
-            | Mode::Rate14k25
-            | Mode::Rate15k85
-            | Mode::Rate18k25
-            | Mode::Rate19k85
-            | Mode::Rate23k05
-            | Mode::Rate23k85 => 4,
-        }
+        self.row().track_width
     }
 
     /// How many tracks share a subframe's samples.
@@ -174,16 +181,6 @@ impl Mode {
         ensures is { result ≡ (row self).tracks }
         ensures some { (2 ≤ result) × (result ≤ 4) }
     {
-        match self {
-            Mode::Rate6k60 => 2,
-            Mode::Rate8k85
-            | Mode::Rate12k65
-            | Mode::Rate14k25
-            | Mode::Rate15k85
-            | Mode::Rate18k25
-            | Mode::Rate19k85
-            | Mode::Rate23k05
-            | Mode::Rate23k85 => 4,
-        }
+        self.row().tracks
     }
 }

@@ -1,16 +1,18 @@
 ghost use Rattle.std.specs.Prelude.{◌≡◌, ◌<◌, ◌≤◌};
 ghost use Rattle.modes.specs.Modes.{pulses_in};
 ghost use Rattle.modes.specs.Fields.{width as width_of};
-ghost use Rattle.pulses.specs.Rules.{bits as bits_of};
 ghost use Rattle.modes.specs.Fields.{track_spot, part_spot};
-ghost use Rattle.modes.specs.Plan.{high_bits, part_width, slot as slot_of, plan as plan_of, nth, total, Narrow, Totals};
-ghost use Rattle.modes.specs.Places.{heads as heads_of, cuts as cuts_of, each as each_of, part_in, size as size_of};
+ghost use Rattle.modes.specs.Plan.{index_bits as bits_in, high_bits, part_width, slot as slot_of, plan as plan_of, nth, total, Narrow, Totals};
+ghost use Rattle.modes.specs.Places.{each as each_of, part_in};
 
 use crate::field::Field;
 use crate::mode::Mode;
+use pulses::index::index_bits;
 use refusals::refusal::Spot;
 
 /// What a slot of the plan holds.
+// Subframe and track are two numbers, since a refusal tells each on its own,
+// and delays and most fields have a subframe alone.
 #[derive(Clone, Copy, PartialEq, Eq, Debug)]
 pub enum Part {
     /// A field.
@@ -43,95 +45,66 @@ impl Part {
 
 impl Mode {
     /// The bits of a field; 0 where the mode has no such field.
+    // 0 bits is a number of bits: public, and it cannot fail.
     pub fn field_bits(self, field: Field) -> u8
         ensures is { result ≡ width_of self field }
     {
         match field {
             Field::Voice => 1,
-            Field::Spectrum(k) => {
-                let bits = self.spectrum();
-                if k < 7 { bits[k] } else { 0 }
-            }
-            Field::Delay(s) => {
-                let bits = self.delays();
-                if s < 4 { bits[s] } else { 0 }
-            }
-            Field::FilterFlag(s) => if s < 4 { self.filter_flag() } else { 0 },
-            Field::Gain(s) => if s < 4 { self.gain() } else { 0 },
-            Field::HighBandGain(s) => if s < 4 { self.high_band() } else { 0 },
+            Field::Spectrum(k) => self.row().spectrum.get(k).copied().unwrap_or(0),
+            Field::Delay(s) => self.row().delays.get(s).copied().unwrap_or(0),
+            Field::FilterFlag(s) => if s < 4 { self.row().filter_flag } else { 0 },
+            Field::Gain(s) => if s < 4 { self.row().gain } else { 0 },
+            Field::HighBandGain(s) => if s < 4 { self.row().high_band } else { 0 },
         }
     }
 
     /// The pulses of a track of a subframe; 0 where the mode has no such track.
+    // No pulses is a number of pulses: public, and it cannot fail.
     pub fn pulses_in(self, subframe: usize, track: usize) -> usize
         ensures is { result ≡ pulses_in self subframe track }
         ensures few { result ≤ 6 }
         ensures has { 0 < result → (subframe < 4) × (track < 4) }
     {
-        let pulses = self.pulses();
         if subframe < 4 && track < 4 {
-            pulses[track] as usize
+            usize::from(self.row().pulses[track])
         } else {
             0
         }
     }
 
+    /// The bits of the index of a track; 0 where the mode has no such track.
+    // The index of no pulses has 0 bits, and `part_bits` cannot fail.
+    fn index_bits(self, subframe: usize, track: usize) -> u8
+        ensures { result ≡ bits_in self subframe track }
+    {
+        index_bits(self.pulses_in(subframe, track), self.track_width()) as u8
+    }
+
     /// The bits of a part; 0 where the mode has no such part.
+    // 0 bits is a number of bits: public, and it cannot fail.
     pub fn part_bits(self, part: Part) -> u8
         ensures { result ≡ part_width self part }
     {
         match part {
             Part::Value(field) => self.field_bits(field),
-            Part::High(s, t) => high_bits(index_bits(self.pulses_in(s, t), self.track_width())),
+            Part::High(s, t) => high_bits(self.index_bits(s, t)),
             Part::Low(s, t) => {
-                let bits = index_bits(self.pulses_in(s, t), self.track_width());
+                let bits = self.index_bits(s, t);
                 bits - high_bits(bits)
             }
         }
     }
 
-    /// How many slots stand before the subframes.
-    fn heads(self) -> usize
-        ensures is { result ≡ heads_of self }
-        ensures few { result ≤ 8 }
-    {
-        match self {
-            Mode::Rate6k60 => 6,
-            Mode::Rate8k85
-            | Mode::Rate12k65
-            | Mode::Rate14k25
-            | Mode::Rate15k85
-            | Mode::Rate18k25
-            | Mode::Rate19k85
-            | Mode::Rate23k05
-            | Mode::Rate23k85 => 8,
-        }
-    }
-
-    /// How many high parts a subframe has.
-    fn cuts(self) -> usize
-        ensures is { result ≡ cuts_of self }
-        ensures few { result ≤ 4 }
-    {
-        match self {
-            Mode::Rate6k60 | Mode::Rate8k85 | Mode::Rate12k65 | Mode::Rate14k25 | Mode::Rate15k85 =>
-                0,
-            Mode::Rate18k25 | Mode::Rate19k85 | Mode::Rate23k05 | Mode::Rate23k85 => 4,
-        }
-    }
-
-    /// How many slots a subframe has.
+    /// How many slots a subframe has: the delay, the filter flag, the high
+    /// parts, the low parts, the gain, the high band gain.
+    #[tactic(auto, using(crate::proofs::Modes::each_counted))]
     fn each(self) -> usize
         ensures is { result ≡ each_of self }
         ensures some { (1 ≤ result) × (result ≤ 12) }
     {
-        match self {
-            Mode::Rate6k60 => 4,
-            Mode::Rate8k85 => 6,
-            Mode::Rate12k65 | Mode::Rate14k25 | Mode::Rate15k85 => 7,
-            Mode::Rate18k25 | Mode::Rate19k85 | Mode::Rate23k05 => 11,
-            Mode::Rate23k85 => 12,
-        }
+        let row = self.row();
+        2 + usize::from(row.filter_flag) + row.cuts + row.tracks + usize::from(row.high_band > 0)
     }
 
     /// What slot `i` of subframe `s` holds: the delay, the filter flag, the
@@ -142,12 +115,13 @@ impl Mode {
         if i == 0 {
             return Part::Value(Field::Delay(s));
         }
-        let first = 1 + self.filter_flag() as usize;
+        let row = self.row();
+        let first = 1 + usize::from(row.filter_flag);
         if i < first {
             return Part::Value(Field::FilterFlag(s));
         }
-        let low = first + self.cuts();
-        let gain = low + self.tracks();
+        let low = first + row.cuts;
+        let gain = low + row.tracks;
         if i < gain {
             let high = i < low;
             let t = if high { i - first } else { i - low };
@@ -182,7 +156,7 @@ impl Mode {
         ensures is { result ≡ nth (plan_of self) k }
         ensures narrow { Narrow result }
     {
-        let heads = self.heads();
+        let heads = self.row().heads;
         if k < heads {
             return Some(self.slot(Part::Value(Field::at(k))));
         }
@@ -195,17 +169,13 @@ impl Mode {
     }
 
     /// The bits of a frame: `Mode::Rate12k65.bits()` is 253.
+    // No column of `Row`, which has what the rules give: this is what the plan
+    // adds up to.
+    #[tactic(auto, using(crate::proofs::Modes::size_is, crate::proofs::Modes::size_most, crate::proofs::Modes::totals))]
     pub fn bits(self) -> usize
         ensures is { result ≡ total (plan_of self) }
         ensures most { result ≤ 477 }
         ensures totals { Totals }
-    {
-        self.size()
-    }
-
-    /// The same, by mode.
-    fn size(self) -> usize
-        ensures { result ≡ size_of self }
     {
         match self {
             Mode::Rate6k60 => 132,
@@ -226,28 +196,9 @@ fn on_track(subframe: usize, track: usize) -> Spot
     ensures { result ≡ track_spot subframe track }
 {
     Spot {
-        frame: None,
         subframe: Some(subframe),
         track: Some(track),
-        cell: None,
-    }
-}
-
-/// The bits of an index of `pulses` pulses on a track of `width`.
-fn index_bits(pulses: usize, width: u8) -> u8
-    requires pulses_bound { pulses ≤ 6 }
-    requires width_bound { width ≤ 5 }
-    requires le_width { 1 ≤ width }
-    ensures { result ≡ bits_of pulses width }
-{
-    match pulses {
-        0 => 0,
-        1 => width + 1,
-        2 => 2 * width + 1,
-        3 => 3 * width + 1,
-        4 => 4 * width,
-        5 => 5 * width,
-        _ => 6 * width - 2,
+        ..Spot::nowhere()
     }
 }
 

@@ -1,7 +1,7 @@
 -- The answers of the index calls at the border to C.
 use Rattle.std.proofs.Common.{◌≡◌, ℕ, zero, suc, ◌+◌, ◌*◌, ◌/◌, ◌%◌, ◌^◌, ◌<◌, ◌≤◌, true, ltb, leb, ◌⊎◌, List, [], ◌∷◌, ◌++◌, map, length, get_or, take, drop, set, replicate, Ok, Err, Result, sym, refl, ap, ◌∙◌, subst, ap₂, inl, inr, ⊎_elim, append_assoc, arith, pow_mono}
 use Rattle.std.proofs.lemmas.Nat.{div-mul-add, mod-mul-add}
-use Rattle.std.proofs.lemmas.List.{length-map, length-take, take_more, take_more_set, drop_more, take_at, set_at, map-append}
+use Rattle.std.proofs.lemmas.List.{length-map, length-take, take_more, drop_more, take_at, set_at, map-append}
 use Rattle.std.proofs.ByRecursion.{All-weaker}
 use Rattle.std.proofs.lemmas.Bool.{le-leb, lt-leb, leb-true, lt-ltb, le-ltb, cond-true, cond-false, cases_Bool, cases_lt}
 use Rattle.std.proofs.lemmas.Bool.Decides.{nat_tests}
@@ -111,14 +111,6 @@ read_fits how n M i ps h =
     }
 
 -- the octets of a list, one more at each turn
-pub pulses_more : (row : List Pulse) (os : List ℕ) (i : ℕ) (p : Pulse) → i < length row → i < length os → take i row ≡ map pulse_of (take i os) → p ≡ pulse_of (get_or os i 0)
-    → take (i + 1) (set row i p) ≡ map pulse_of (take (i + 1) os)
-pulses_more row os i p l k e h =
-    take_more_set row i p l
-    ∙ ap₂ (λ (y : List Pulse) (z : Pulse). y ++ z ∷ []) e h
-    ∙ sym (map-append pulse_of (take i os) (get_or os i 0 ∷ []))
-    ∙ ap (map pulse_of) (sym (take_more os i 0 k))
-
 pub octets_more : (ps : List Pulse) (out os : List ℕ) (i o : ℕ) → i < length ps → length ps ≤ length out → os ≡ map octet_of (take i ps) ++ drop i out → o ≡ octet_of (at ps i)
     → set os i o ≡ map octet_of (take (i + 1) ps) ++ drop (i + 1) out
 octets_more ps out os i o l k e h =
@@ -139,12 +131,6 @@ filled_whole ps out l = cond-true (leb (length ps) (length out)) (map octet_of p
 pub filled_not : (e : Refusal) (out : List ℕ) → filled_octets out (Err e) ≡ out
 unfolding filled_octets
 filled_not e out = refl
-
-pub handed_short : (ps : List Pulse) (room : ℕ) → room < length ps → handed room (Ok ps) ≡ Err (because BufferTooShort)
-handed_short ps room l = cond-false (leb (length ps) room) (Ok (length ps)) (Err (because BufferTooShort)) (lt-leb (length ps) room l)
-
-pub handed_whole : (ps : List Pulse) (room : ℕ) → length ps ≤ room → handed room (Ok ps) ≡ Ok (length ps)
-handed_whole ps room l = cond-true (leb (length ps) room) (Ok (length ps)) (Err (because BufferTooShort)) (le-leb (length ps) room l)
 
 -- what a row of six holds after an accepted reading
 pub record Front (how : Reading) (n M i k : ℕ) (row : List Pulse) : Type 0 where

@@ -1,14 +1,16 @@
 -- What the answers of the index calls mean by the rules.
-use Rattle.std.proofs.Common.{◌≡◌, ℕ, ◌+◌, ◌^◌, ◌<◌, ◌≤◌, Bool, true, false, cond, ◌&&◌, eqb, List, [], ◌∷◌, length, take, IfOk, Ok, Err, Result, sym, refl, ap, ◌∙◌, subst, ap₂, ⊎_elim, mod-eq_of_lt, arith}
+use Rattle.std.proofs.Common.{◌≡◌, ℕ, ◌+◌, ◌^◌, ◌<◌, ◌≤◌, Bool, true, false, cond, ◌&&◌, eqb, List, [], ◌∷◌, length, take, Option, Some, None, MatchOption, IfOk, Ok, Err, Result, sym, refl, ap, ◌∙◌, subst, ap₂, ⊎_elim, mod-eq_of_lt, arith}
 use Rattle.std.proofs.lemmas.Bool.{eqb-true, eq-eqb, lt-ltb, le-ltb, cases_Bool, cases_lt, cond-true, cond-false}
 use Rattle.std.proofs.lemmas.List.{take_at}
 use Rattle.std.proofs.lemmas.Bool.Decides.{nat_tests}
+use Rattle.std.proofs.lemmas.Option.{MatchOption-at_some, MatchOption-at_none}
 use Rattle.refusals.specs.declared.cause.Cause.TheVariants.{OffTrack, BothSigns, WrongNumber, NoSuchIndex, NotHouseIndex}
 use Rattle.refusals.specs.declared.refusal.Refusal.{Refusal}
 use Rattle.refusals.specs.Spots.{because}
 use Rattle.pulses.specs.declared.pulse.Pulse.{Pulse}
 use Rattle.pulses.specs.declared.pulse.Sign.TheVariants.{Plus, Minus}
 use Rattle.pulses.specs.declared.index.Reading.{Reading}
+use Rattle.pulses.specs.declared.index.Used.{Used}
 use Rattle.pulses.specs.declared.index.Reading.TheVariants.{Strict, Open}
 use Rattle.pulses.specs.Pulses.{pulse, tally, Same, Lawful, On, Sorted, Group, EqualAmplitudes, up, sort}
 use Rattle.pulses.specs.Rules.{Choice, Index, bits}
@@ -38,6 +40,16 @@ in_use n M h =
       narrow = grind (arith, nat_tests);
       few = grind (arith, nat_tests);
     }
+
+-- a pair that was asked for
+pub in_use_so : (n M : ℕ) (o : Option Used) (t : Used) → o ≡ Some t → MatchOption o (used n M ≡ false) (λ u. (u.number ≡ n) × (u.width ≡ M))
+    → (used n M ≡ true) × ((t.number ≡ n) × (t.width ≡ M))
+in_use_so n M o t e h =
+    let k = MatchOption-at_some (used n M ≡ false) (λ u. (u.number ≡ n) × (u.width ≡ M)) t e h in
+    (sym (ap₂ used k.0 k.1) ∙ t.in_use, k)
+
+pub not_in_use : (n M : ℕ) (o : Option Used) → o ≡ None → MatchOption o (used n M ≡ false) (λ u. (u.number ≡ n) × (u.width ≡ M)) → used n M ≡ false
+not_in_use n M o e h = MatchOption-at_none (used n M ≡ false) (λ u. (u.number ≡ n) × (u.width ≡ M)) e h
 
 -- an answer is accepted or refused, never both
 pub never : {X : Type 0} (x : X) (e : Refusal) → ◌≡◌ {A = Result X Refusal} (Err e) (Ok x) → ⊥
@@ -355,3 +367,8 @@ module _ (how : Reading) (n M i : ℕ) (u : used n M ≡ true) (l : i < 2 ^ bits
 
   pub read_other : (row : List Pulse) → track_set n M (pulses_of n M i) ≡ Ok row → accepts how (house n M (down M (take n row))) i ≡ false → read_index how n M i ≡ Err (because NotHouseIndex)
   read_other row h e = read_at row false h e
+
+-- the laws that stand on the calls, for each of their exits
+pub ruleset writing_laws = (gives_the_only_house_index, whatever_the_sequence, is_read_again_law)
+
+pub ruleset reading_laws = (reads_by_the_rules, strict_is_open, accepts_exactly_what_is_written)

@@ -1,20 +1,21 @@
 -- What the questions to a track's pulses tell, and what stands in a row put in order.
-use Rattle.std.proofs.Common.{◌≡◌, ℕ, zero, suc, ◌+◌, ◌-◌, ◌^◌, ◌<◌, ◌≤◌, Bool, true, false, ◌&&◌, eqb, leb, ◌⊎◌, List, [], ◌∷◌, ◌++◌, length, take, drop, replicate, Ok, Err, sym, refl, ap, ◌∙◌, subst, ap₂, inl, inr, ⊎_elim, zero-add, arith}
-use Rattle.std.specs.List.{AllByRecursion}
-use Rattle.std.proofs.lemmas.List.{length-take, get_or-take, take-append-drop, drop-drop, drop-replicate}
-use Rattle.std.proofs.ByRecursion.{All-get_or, All-from_get_or}
-use Rattle.std.proofs.lemmas.Bool.{leb-true, le-leb, ltb-true, lt-ltb, eqb-true, eq-eqb, cases_lt, cond_both, true≢false}
+use Rattle.std.proofs.Common.{◌≡◌, ℕ, ◌+◌, ◌-◌, ◌^◌, ◌<◌, ◌≤◌, Bool, true, false, ◌&&◌, eqb, leb, ◌⊎◌, List, [], ◌∷◌, ◌++◌, length, take, drop, replicate, Ok, Err, sym, refl, ap, ◌∙◌, subst, ap₂, inl, inr, ⊎_elim, arith}
+use Rattle.std.specs.Prelude.{nat_lt}
+use Rattle.std.specs.List.{AllByRecursion, IsAllAdjacentAnswer, list_all}
+use Rattle.std.proofs.lemmas.List.{length-take, take-append-drop}
+use Rattle.std.proofs.lemmas.Bool.{leb-true, le-leb, ltb-true, lt-ltb, eqb-true, eq-eqb, cases_lt, true≢false}
+use Rattle.std.proofs.lemmas.Bool.Decides.{nat_tests}
 use Rattle.refusals.specs.declared.cause.Cause.TheVariants.{WrongNumber, OffTrack, BothSigns}
+use Rattle.refusals.specs.declared.refusal.Refusal.{Refusal}
 use Rattle.refusals.specs.Spots.{because}
 use Rattle.pulses.specs.declared.pulse.Pulse.{Pulse}
 use Rattle.pulses.specs.declared.pulse.Sign.{Sign}
 use Rattle.pulses.specs.declared.pulse.Sign.TheVariants.{Plus, Minus}
-use Rattle.pulses.specs.Pulses.{opposite, tally, Same, Lawful, On, Sorted, sort}
-use Rattle.pulses.specs.Sets.{every, on_track, one_signed, checked, none, at, padded, map_ok, track_set, put, line_up, apart}
+use Rattle.pulses.specs.Pulses.{opposite, tally, Lawful, On, sort}
+use Rattle.pulses.specs.Sets.{every, on_track, one_signed, checked, none, padded, map_ok, track_set, InOrder, apart, follows}
 use Rattle.pulses.proofs.Tallies.{hit_self, hit_cases, lawful_same, same_sym}
 use Rattle.pulses.proofs.Canon.{sort_is}
-use Rattle.pulses.proofs.Arranged.{line_up_length, line_up_sorted, line_up_tally}
-use Rattle.pulses.proofs.Signs.{Steps, lawful_from_steps, steps_from_lawful}
+use Rattle.pulses.proofs.Signs.{alike_cases, Steps, lawful_from_steps, steps_from_lawful}
 
 -- a test of every element
 and_true : (a b : Bool) → (a && b) ≡ true → (a ≡ true) × (b ≡ true)
@@ -94,64 +95,42 @@ unfolding checked
 checked_both M ps o n = rw (test_from_on M ps o, not_true (one_signed ps) (λ e. n (lawful_from_test ps e)))
 
 -- a row put in order: the pulses in front, and nothing behind them
-abbrev row_of : List Pulse → List Pulse
-row_of ps = line_up ps 0 (replicate 6 none)
-
-abbrev front : List Pulse → List Pulse
-front ps = take (length ps) (row_of ps)
-
-front_sorted : (ps : List Pulse) → length ps ≤ 6 → Sorted (front ps)
-front_sorted ps h = rw zero-add at (line_up_sorted ps 0 (replicate 6 none) (omega arith) tt)
-
-front_same : (ps : List Pulse) → length ps ≤ 6 → Same (front ps) ps
-front_same ps h x s = let e = simp zero-add at (line_up_tally x s ps 0 (replicate 6 none) (omega arith)) in omega arith
-
-front_length : (ps : List Pulse) → length ps ≤ 6 → length (front ps) ≡ length ps
-front_length ps h = let e : length (row_of ps) ≡ 6 = line_up_length ps 0 (replicate 6 none) in simp length-take (omega arith)
-
-put_drop : (n : ℕ) (p : Pulse) (row : List Pulse) → drop (suc n) (put n p row) ≡ drop (suc n) row
-unfolding put
-put_drop n p [] = refl
-put_drop zero p (q ∷ qs) = refl
-put_drop (suc n) p (q ∷ qs) = cond_both _ (p ∷ put n q qs) (q ∷ put n p qs) (λ z. drop (suc (suc n)) z ≡ drop (suc n) qs) (λ _. put_drop n q qs) (λ _. put_drop n p qs)
-
-drop_more : (m n : ℕ) (xs ys : List Pulse) → n ≤ m → drop n xs ≡ drop n ys → drop m xs ≡ drop m ys
-drop_more m n xs ys h e =
-    let f : n + (m - n) ≡ m = omega arith in
-    let P : ℕ → Type 0 = λ z. drop z xs ≡ drop z ys in
-    subst P f (sym (drop-drop (m - n) n xs) ∙ ap (drop (m - n)) e ∙ drop-drop (m - n) n ys)
-
-line_up_drop : (ps : List Pulse) (n m : ℕ) (row : List Pulse) → n + length ps ≤ m → drop m (line_up ps n row) ≡ drop m row
-unfolding line_up
-line_up_drop [] n m row h = refl
-line_up_drop (p ∷ ps) n m row h = line_up_drop ps (suc n) m (put n p row) (omega arith) ∙ drop_more m (suc n) (put n p row) row (omega arith) (put_drop n p row)
+front_length : (ps row : List Pulse) → length ps ≤ 6 → InOrder ps row → length (take (length ps) row) ≡ length ps
+front_length ps row h o = let e = o.size in simp length-take (omega arith)
 
 -- the row of a lawful set
-pub row_is : (ps : List Pulse) → length ps ≤ 6 → Lawful ps → row_of ps ≡ padded (sort ps)
+pub row_is : (ps row : List Pulse) → length ps ≤ 6 → InOrder ps row → Lawful ps → row ≡ padded (sort ps)
 unfolding padded
-row_is ps h l =
-    let e : sort ps ≡ front ps = sort_is (front ps) ps (lawful_same ps (front ps) (same_sym (front ps) ps (front_same ps h)) l) (front_sorted ps h) (front_same ps h) in
-    let back : drop (length ps) (row_of ps) ≡ replicate (6 - length (sort ps)) none =
-    line_up_drop ps 0 (length ps) (replicate 6 none) (omega arith) ∙ drop-replicate (length ps) 6 none
-    ∙ ap (λ n. replicate (6 - n) none) (sym (ap length e ∙ front_length ps h)) in
-    sym (take-append-drop (length ps) (row_of ps)) ∙ ap₂ (λ y z. y ++ z) (sym e) back
+row_is ps row h o l =
+    let front = take (length ps) row in
+    let e : sort ps ≡ front = sort_is front ps (lawful_same ps front (same_sym front ps o.same) l) o.rises o.same in
+    let back : drop (length ps) row ≡ replicate (6 - length (sort ps)) none = o.behind ∙ ap (λ n. replicate (6 - n) none) (sym (ap length e ∙ front_length ps row h o)) in
+    sym (take-append-drop (length ps) row) ∙ ap₂ (λ y z. y ++ z) (sym e) back
 
-abbrev pub Stepped : ℕ → List Pulse → Type 0
-Stepped n row = (k : ℕ) → k + 1 < n → (at row k).place + apart (at row k) (at row (k + 1)) ≤ (at row (k + 1)).place
+-- what the neighbours of a list tell
+step_from_test : (p q : Pulse) → follows p q ≡ true → p.place + apart p q ≤ q.place
+unfolding apart
+step_from_test p q h =
+    elim (alike_cases p.sign q.sign) [
+      | inl e ↦ rw e (grind (arith, nat_tests))
+      | inr e ↦ rw e (grind (arith, nat_tests))
+    ]
 
-pub lawful_from_stepped : (ps : List Pulse) → length ps ≤ 6 → Stepped (length ps) (row_of ps) → Lawful ps
-lawful_from_stepped ps h st = lawful_same (front ps) ps (front_same ps h) (lawful_from_steps (front ps) steps)
-  where
-    steps : Steps (front ps)
-    steps k l =
-        let l' : k + 1 < length ps = rw (front_length ps h) at l in
-        rw (get_or-take (length ps) (row_of ps) k none (omega arith), get_or-take (length ps) (row_of ps) (k + 1) none l') (st k l')
+test_from_step : (p q : Pulse) → p.place + apart p q ≤ q.place → follows p q ≡ true
+unfolding apart
+test_from_step p q h =
+    elim (alike_cases p.sign q.sign) [
+      | inl e ↦ grind (arith, nat_tests, rw e at h)
+      | inr e ↦ grind (arith, nat_tests, rw e at h)
+    ]
 
-pub stepped_from_lawful : (ps : List Pulse) → length ps ≤ 6 → Lawful ps → Stepped (length ps) (row_of ps)
-stepped_from_lawful ps h l k lt =
-    let st = steps_from_lawful (front ps) (front_sorted ps h) (lawful_same ps (front ps) (same_sym (front ps) ps (front_same ps h)) l) in
-    let l' : k + 1 < length (front ps) = rw (front_length ps h) lt in
-    rw (get_or-take (length ps) (row_of ps) k none (omega arith), get_or-take (length ps) (row_of ps) (k + 1) none lt) at (st k l')
+steps_from_answer : (xs : List Pulse) (r : Bool) → IsAllAdjacentAnswer (λ p q b. b ≡ follows p q) xs r → r ≡ true → Steps xs
+steps_from_answer xs true h e = λ k l. step_from_test _ _ (sym (h k none l))
+steps_from_answer xs false h e = absurd (true≢false (sym e))
+
+no_steps_from_answer : (xs : List Pulse) (r : Bool) → IsAllAdjacentAnswer (λ p q b. b ≡ follows p q) xs r → r ≡ false → Steps xs → ⊥
+no_steps_from_answer xs true h e st = true≢false e
+no_steps_from_answer xs false h e st = true≢false (sym (test_from_step _ _ (st h.0 h.1)) ∙ sym (h.2 none))
 
 -- the answers of `track_set`
 pub set_number : (n M : ℕ) (ps : List Pulse) → (length ps ≡ n → n ≤ 6 → ⊥) → track_set n M ps ≡ Err (because WrongNumber)
@@ -165,22 +144,39 @@ pub set_is : (n M : ℕ) (ps : List Pulse) → length ps ≡ n → n ≤ 6 → t
 unfolding track_set
 set_is n M ps e l = rw (eq-eqb (length ps) n e, le-leb n 6 l)
 
-pub on_from_places : (M : ℕ) (ps : List Pulse) → ((k : ℕ) → k < length ps → (at ps k).place < 2 ^ M) → On M ps
-on_from_places M ps h = All-from_get_or (λ p. p.place < 2 ^ M) ps none h
+-- a test of every element, as the library has it
+every_is : {X : Type 0} (f : X → Bool) (xs : List X) → every f xs ≡ list_all f xs
+every_is f [] = refl
+every_is f (x ∷ xs) = ap (λ b. f x && b) (every_is f xs)
 
-pub places_from_on : (M : ℕ) (ps : List Pulse) → On M ps → (k : ℕ) → k < length ps → (at ps k).place < 2 ^ M
-places_from_on M ps a k l = All-get_or (λ p. p.place < 2 ^ M) ps k none l a
+pub on_track_is : (M : ℕ) (ps : List Pulse) → on_track M ps ≡ list_all (λ p. nat_lt p.place (2 ^ M)) ps
+unfolding on_track
+on_track_is M ps = every_is _ ps
 
-pub set_off : (n M : ℕ) (ps : List Pulse) → length ps ≡ n → n ≤ 6 → (((k : ℕ) → k < length ps → (at ps k).place < 2 ^ M) → ⊥) → track_set n M ps ≡ Err (because OffTrack)
-set_off n M ps e l h = set_is n M ps e l ∙ ap (map_ok padded) (checked_off M ps (λ o. h (places_from_on M ps o)))
+-- and by those of the questions that it asks
+pub number_refused : (n M : ℕ) (ps : List Pulse) (e : Refusal) → e ≡ because WrongNumber → (length ps ≡ n → ⊥) ⊎ (6 < n) → Err e ≡ track_set n M ps
+number_refused n M ps e h w = ap Err h ∙ sym (set_number n M ps (λ l k. ⊎_elim (λ other. other l) (λ more. omega (arith, more)) w))
 
-pub set_both : (n M : ℕ) (ps row : List Pulse) → length ps ≡ n → n ≤ 6 → On M ps → row ≡ row_of ps → (Stepped n row → ⊥) → track_set n M ps ≡ Err (because BothSigns)
-set_both n M ps row e l o er h =
-    let l' : length ps ≤ 6 = omega arith in
-    set_is n M ps e l ∙ ap (map_ok padded) (checked_both M ps o (λ k. h (rw (er, ← e) (stepped_from_lawful ps l' k))))
+pub off_refused : (n M : ℕ) (ps : List Pulse) (e : Refusal) (on : Bool) → e ≡ because OffTrack → length ps ≡ n → n ≤ 6 → on ≡ list_all (λ p. nat_lt p.place (2 ^ M)) ps → on ≡ false
+    → Err e ≡ track_set n M ps
+off_refused n M ps e on h l k a f =
+    ap Err h ∙ sym (set_is n M ps l k ∙ ap (map_ok padded) (checked_off M ps (λ o. true≢false (sym (test_from_on M ps o) ∙ on_track_is M ps ∙ sym a ∙ f))))
 
-pub set_ok : (n M : ℕ) (ps row : List Pulse) → length ps ≡ n → n ≤ 6 → On M ps → row ≡ row_of ps → Stepped n row → track_set n M ps ≡ Ok row
-set_ok n M ps row e l o er h =
-    let l' : length ps ≤ 6 = omega arith in
-    let k : Lawful ps = lawful_from_stepped ps l' (rw (er, ← e) at h) in
-    set_is n M ps e l ∙ ap (map_ok padded) (checked_ok M ps o k) ∙ ap Ok (sym (er ∙ row_is ps l' k))
+pub both_refused : (n M : ℕ) (ps row : List Pulse) (e : Refusal) (on b : Bool) → e ≡ because BothSigns → length ps ≡ n → n ≤ 6 → on ≡ list_all (λ p. nat_lt p.place (2 ^ M)) ps → on ≡ true
+    → InOrder ps row → IsAllAdjacentAnswer (λ p q r. r ≡ follows p q) (take n row) b → b ≡ false → Err e ≡ track_set n M ps
+both_refused n M ps row e on b h l k a t o w f =
+    let front = take (length ps) row in
+    let no : Steps (take n row) → ⊥ = no_steps_from_answer (take n row) b w f in
+    ap Err h
+    ∙ sym (set_is n M ps l k ∙ ap (map_ok padded) (checked_both M ps (on_from_test M ps (on_track_is M ps ∙ sym a ∙ t))
+    (λ m. no (subst (λ z. Steps (take z row)) l (steps_from_lawful front o.rises (lawful_same ps front (same_sym front ps o.same) m))))))
+
+pub row_given : (n M : ℕ) (ps row : List Pulse) (on b : Bool) → length ps ≡ n → n ≤ 6 → on ≡ list_all (λ p. nat_lt p.place (2 ^ M)) ps → on ≡ true
+    → InOrder ps row → IsAllAdjacentAnswer (λ p q r. r ≡ follows p q) (take n row) b → b ≡ true → Ok row ≡ track_set n M ps
+row_given n M ps row on b l k a t o w f =
+    let front = take (length ps) row in
+    let st = steps_from_answer (take n row) b w f in
+    let m : Lawful ps = lawful_same front ps o.same (lawful_from_steps front (subst (λ z. Steps (take z row)) (sym l) st)) in
+    sym (set_is n M ps l k ∙ ap (map_ok padded) (checked_ok M ps (on_from_test M ps (on_track_is M ps ∙ sym a ∙ t)) m) ∙ ap Ok (sym (row_is ps row (omega arith) o m)))
+
+pub ruleset set_answers = (number_refused, off_refused, both_refused, row_given)

@@ -7,8 +7,7 @@ pub mod Complete
 pub mod Houses
 pub mod Unique
 pub mod ReadSteps
-pub mod Putting
-pub mod Arranged
+pub mod Ordered
 pub mod Signs
 pub mod Checked
 pub mod Within

@@ -3,6 +3,8 @@ use Rattle.std.proofs.Common.{◌≡◌, ℕ, zero, suc, ◌+◌, ◌<◌, ◌�
 use Rattle.std.specs.List.{AllByRecursion}
 use Rattle.std.proofs.lemmas.Bool.Decides.{nat_tests, eqb_tells}
 use Rattle.std.proofs.ByRecursion.{All-get_or}
+use denote.Enum.Bare.{sameb}
+use Rattle.pulses.specs.contracts.pulse.Sign.{the_type}
 use Rattle.pulses.specs.declared.pulse.Pulse.{Pulse}
 use Rattle.pulses.specs.declared.pulse.Sign.{Sign}
 use Rattle.pulses.specs.declared.pulse.Sign.TheVariants.{Plus, Minus}
@@ -104,7 +106,7 @@ both n Minus Plus e h k l = elim l [ inl f ↦ omega arith | inr f ↦ omega ari
 both n Plus Minus e h k l = elim l [ inl f ↦ omega arith | inr f ↦ omega arith ]
 both n Plus Plus e h k l = let z : true ≡ false = e in absurd (grind arith)
 
-alike_cases : (a b : Sign) → (alike a b ≡ true) ⊎ (alike a b ≡ false)
+pub alike_cases : (a b : Sign) → (alike a b ≡ true) ⊎ (alike a b ≡ false)
 alike_cases a b = elim (alike a b) as (λ t. (t ≡ true) ⊎ (t ≡ false)) [ true ↦ inl refl | false ↦ inr refl ]
 
 pub steps_from_lawful : (ps : List Pulse) → Sorted ps → Lawful ps → Steps ps
@@ -123,3 +125,10 @@ steps_from_lawful ps h l k lt =
         | inr f ↦ rw e (grind arith)
       ]
     ]
+
+-- the derived comparison of signs
+pub same_alike : (a b : Sign) → sameb the_type a b ≡ alike a b
+same_alike Plus Plus = refl
+same_alike Plus Minus = refl
+same_alike Minus Plus = refl
+same_alike Minus Minus = refl

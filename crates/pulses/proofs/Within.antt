@@ -4,7 +4,7 @@ use native.Mathlib.Nat.{div-eq_of_lt}
 use lib.Pow.{mod-mod-pow}
 use Rattle.std.specs.List.{AllByRecursion}
 use Rattle.std.proofs.lemmas.Nat.{pow_pos, div_below, mod_below, div-add-mod'}
-use Rattle.std.proofs.lemmas.List.{length-map, map-append, take-map, drop-map, take-take, take-append-drop, drop-append-le, drop-drop, length-take, length-append, append-nil}
+use Rattle.std.proofs.lemmas.List.{length-map, map-append, take-map, drop-map, take-take, take-append-drop, drop-append-le, drop-drop, length-take, length-drop, length-append, append-nil}
 use Rattle.std.proofs.ByRecursion.{All-drop}
 use Rattle.std.proofs.lemmas.Bool.{cases_eq, cases_lt, le-leb, lt-leb, cond-true, cond-false}
 use Rattle.pulses.specs.declared.pulse.Pulse.{Pulse}
@@ -19,7 +19,7 @@ pub length_down : (M : ℕ) (ps : List Pulse) → length (down M ps) ≡ length 
 unfolding down
 length_down M ps = length-map ps (λ p. pulse (p.place % 2 ^ M) p.sign)
 
-pub down_append : (M : ℕ) (ps qs : List Pulse) → down M (ps ++ qs) ≡ down M ps ++ down M qs
+down_append : (M : ℕ) (ps qs : List Pulse) → down M (ps ++ qs) ≡ down M ps ++ down M qs
 unfolding down
 down_append M ps qs = map-append (λ p. pulse (p.place % 2 ^ M) p.sign) ps qs
 
@@ -133,12 +133,12 @@ module _ (H n : ℕ) (ps : List Pulse) (a : Sorted (down (suc H) ps)) (e : n ≡
         high_sorted = let P : ℕ → Type 0 = λ z. Sorted (down z (drop n ps)) in subst P w (subst Sorted high_down (sorted_half H 1 _ a));
       }
 
-pub halved_is : (M n : ℕ) (ps : List Pulse) → 1 ≤ M → Sorted (down M ps) → n ≡ length (half (M - 1) 0 (down M ps)) → Halved M ps (take n ps) (drop n ps)
+halved_is : (M n : ℕ) (ps : List Pulse) → 1 ≤ M → Sorted (down M ps) → n ≡ length (half (M - 1) 0 (down M ps)) → Halved M ps (take n ps) (drop n ps)
 halved_is zero n ps h a e = absurd (omega arith)
 halved_is (suc H) n ps h a e =
     let w : suc H - 1 ≡ H = omega arith in halved H n ps a (e ∙ ap (λ z. length (half z 0 (down (suc H) ps))) w)
 
-pub sorted_drop : (k : ℕ) (ps : List Pulse) → Sorted ps → Sorted (drop k ps)
+sorted_drop : (k : ℕ) (ps : List Pulse) → Sorted ps → Sorted (drop k ps)
 sorted_drop zero ps a = a
 sorted_drop (suc k) [] a = tt
 sorted_drop (suc k) (p ∷ ps) a = sorted_drop k ps a.1
@@ -249,7 +249,7 @@ module _ (H n k : ℕ) (ps : List Pulse) (a : Sorted (down (suc H) ps)) (e : n �
       }
 
 -- where the house takes k pulses: s is where they begin
-pub chosen_is : (k M n h s : ℕ) (ps : List Pulse) → 1 ≤ M → Sorted (down M ps) → n ≡ length (half (M - 1) 0 (down M ps)) → n ≤ length ps
+chosen_is : (k M n h s : ℕ) (ps : List Pulse) → 1 ≤ M → Sorted (down M ps) → n ≡ length (half (M - 1) 0 (down M ps)) → n ≤ length ps
     → ((k ≤ n) × ((h ≡ 0) × (s ≡ 0))) ⊎ ((n < k) × ((h ≡ 1) × (s ≡ n)))
     → Chosen k M ps h (take k (drop s ps)) (take s ps ++ drop (s + k) ps)
 chosen_is k zero n h s ps w a e m c = absurd (omega arith)
@@ -259,3 +259,25 @@ chosen_is k (suc H) n h s ps w a e m c =
     let P : ℕ → ℕ → Type 0 = λ y z. Chosen k (suc H) ps y (take k (drop z ps)) (take z ps ++ drop (z + k) ps) in
     ⊎_elim (λ t. subst (λ y. P y s) (sym t.1.0) (subst (λ z. P 0 z) (sym t.1.1) (chosen_low H n k ps a f t.0 m)))
     (λ t. subst (λ y. P y s) (sym t.1.0) (subst (λ z. P 1 z) (sym t.1.1) (chosen_high H n k ps a f t.0 m))) c
+
+-- the same of the slices that the code holds
+pub halved_at : (M n : ℕ) (ps low high : List Pulse) → 1 ≤ M → Sorted (down M ps) → n ≡ length (half (M - 1) 0 (down M ps)) → low ≡ take n ps → high ≡ drop n ps → Halved M ps low high
+halved_at M n ps low high h a e l r = rw (l, r) (halved_is M n ps h a e)
+
+pub chosen_at : (k M n h s : ℕ) (ps before from group after row : List Pulse) → 1 ≤ M → Sorted (down M ps) → n ≡ length (half (M - 1) 0 (down M ps)) → n ≤ length ps
+    → ((k ≤ n) × ((h ≡ 0) × (s ≡ 0))) ⊎ ((n < k) × ((h ≡ 1) × (s ≡ n)))
+    → s + k ≤ length ps → before ≡ take s ps → from ≡ drop s ps → group ≡ take k from → after ≡ drop k from
+    → take (length before + length after) row ≡ before ++ after
+    → Chosen k M ps h group (take (length ps - k) row)
+chosen_at k M n h s ps before from group after row w a e m c f b d g r q =
+    let x : group ≡ take k (drop s ps) = g ∙ ap (take k) d in
+    let y : after ≡ drop (s + k) ps = r ∙ ap (drop k) d ∙ drop-drop k s ps in
+    let l : length ps - k ≡ length before + length after = omega (arith, ap length b, ap length y, length-take s ps, length-drop (s + k) ps) in
+    let z : take (length ps - k) row ≡ take s ps ++ drop (s + k) ps = ap (λ v. take v row) l ∙ q ∙ ap₂ (λ v u. v ++ u) b y in
+    rw (x, z) (chosen_is k M n h s ps w a e m c)
+
+pub sorted_front : (M k : ℕ) (ps qs : List Pulse) → Sorted (down M ps) → qs ≡ take k ps → Sorted (down M qs)
+sorted_front M k ps qs a e = rw e (subst Sorted (take_down M k ps) (sorted_take k (down M ps) a))
+
+pub sorted_back : (M k : ℕ) (ps qs : List Pulse) → Sorted (down M ps) → qs ≡ drop k ps → Sorted (down M qs)
+sorted_back M k ps qs a e = rw e (subst Sorted (drop_down M k ps) (sorted_drop k (down M ps) a))

@@ -8,3 +8,4 @@ pub mod Within
 pub mod Calls
 pub mod Octets
 pub mod Examples
+pub mod Texts

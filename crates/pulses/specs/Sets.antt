@@ -4,14 +4,16 @@
 --   one_signed ps      no place has both signs
 --   checked M ps       ps in order, or the first question that they fail: on the track, no place with both signs
 --   padded ps          a row of six: ps, and behind them plus pulses on place 0
+--   follows p q        whether q may stand right behind p
+--   InOrder ps row     the row of six is ps in order, padded
 --   track_set n M ps   the row of a track of n pulses, or why not: the number of pulses, then as checked
-use Rattle.std.specs.Prelude.{ℕ, zero, suc, ◌-◌, ◌^◌, Bool, true, cond, ◌&&◌, List, [], ◌∷◌, ◌++◌, length, replicate, Ok, Err, Result, ◌==◌, nat_eq, nat_le, nat_lt, slice_index_or}
+use Rattle.std.specs.Prelude.{◌≡◌, ℕ, ◌-◌, ◌^◌, Bool, true, cond, ◌&&◌, ◌||◌, List, [], ◌∷◌, ◌++◌, length, take, drop, replicate, Ok, Err, Result, ◌==◌, nat_eq, nat_le, nat_lt, slice_index_or}
 use Rattle.refusals.specs.declared.cause.Cause.TheVariants.{WrongNumber, OffTrack, BothSigns}
 use Rattle.refusals.specs.declared.refusal.Refusal.{Refusal}
 use Rattle.refusals.specs.Spots.{because}
 use Rattle.pulses.specs.declared.pulse.Pulse.{Pulse}
 use Rattle.pulses.specs.declared.pulse.Sign.TheVariants.{Plus}
-use Rattle.pulses.specs.Pulses.{pulse, alike, opposite, tally, sort}
+use Rattle.pulses.specs.Pulses.{pulse, alike, opposite, tally, Same, Sorted, sort}
 
 abbrev pub every : {X : Type 0} → (X → Bool) → List X → Bool
 every f [] = true
@@ -42,16 +44,17 @@ map_ok f (Err e) = Err e
 unfoldable pub track_set : ℕ → ℕ → List Pulse → Result (List Pulse) Refusal
 track_set n M ps = cond (length ps == n && nat_le n 6) (map_ok padded (checked M ps)) (Err (because WrongNumber))
 
--- How a row is put in order, in place: one more pulse among the n that stand in front.
-unfoldable pub put : ℕ → Pulse → List Pulse → List Pulse
-put n p [] = []
-put zero p (q ∷ qs) = p ∷ qs
-put (suc n) p (q ∷ qs) = cond (nat_le p.place q.place) (p ∷ put n q qs) (q ∷ put n p qs)
-
-unfoldable pub line_up : List Pulse → ℕ → List Pulse → List Pulse
-line_up [] n row = row
-line_up (p ∷ ps) n row = line_up ps (suc n) (put n p row)
-
 -- how far a pulse has to stand above another: 1 where the signs differ
 unfoldable pub apart : Pulse → Pulse → ℕ
 apart p q = cond (alike p.sign q.sign) 0 1
+
+-- at the same place only with the same sign
+abbrev pub follows : Pulse → Pulse → Bool
+follows p q = nat_lt p.place q.place || (p.place == q.place && alike p.sign q.sign)
+
+-- a row put in order: the pulses ps in front, from the lowest place up, and behind them plus pulses on place 0
+pub record InOrder (ps row : List Pulse) : Type 0 where
+  pub size : length row ≡ 6
+  pub rises : Sorted (take (length ps) row)
+  pub same : Same (take (length ps) row) ps
+  pub behind : drop (length ps) row ≡ replicate (6 - length ps) none

@@ -1,5 +1,5 @@
-ghost use Rattle.std.specs.Prelude.{◌≡◌, ◌<◌, ◌≤◌, map, length, take, pos, neg_ℤ, Ok};
-ghost use Rattle.refusals.specs.Refusals.{number_of};
+ghost use Rattle.std.specs.Prelude.{◌≡◌, ◌^◌, ◌<◌, ◌≤◌, map, length, take, Ok};
+ghost use Rattle.std.specs.Result.{ForOk};
 ghost use Rattle.pulses.specs.Pulses.{On};
 ghost use Rattle.pulses.specs.Calls.{write_index, read_index, handed};
 ghost use Rattle.pulses.specs.Octets.{octet_of, pulse_of, answer_of, filled_octets, way_of, OctetTellsThePulse, OffEveryTrack};
@@ -14,40 +14,38 @@ use refusals::refusal::Refusal;
 fn pulse_of(octet: u8) -> Pulse
     ensures { result ≡ pulse_of octet }
 {
-    if octet < 32 {
-        Pulse {
-            place: octet,
-            sign: Sign::Plus,
-        }
-    } else if octet < 64 {
-        Pulse {
-            place: octet - 32,
-            sign: Sign::Minus,
-        }
-    } else {
-        Pulse {
-            place: octet,
-            sign: Sign::Plus,
-        }
-    }
+    let (place, sign) = match octet {
+        0..32 => (octet, Sign::Plus),
+        32..64 => (octet - 32, Sign::Minus),
+        _ => (octet, Sign::Plus),
+    };
+    Pulse { place, sign }
 }
 
 /// A pulse as one octet.
+// The octets are those of the C interface alone, and only a place on a track has
+// one: no `From`.
 fn octet_of(p: Pulse) -> u8
     requires { p.place < 32 }
     ensures { result ≡ octet_of p }
 {
-    p.place + 32 * p.sign.bit()
+    p.place + 32 * u8::from(p.sign)
 }
 
-/// Minus the number of the refusal.
-fn refused(refusal: Refusal) -> i32
-    ensures { result ≡ neg_ℤ (pos (number_of refusal.cause)) }
+/// An answer as one number, which is all that C takes: what was accepted, or
+/// minus the number of the refusal.
+fn answer(answered: Result<u32, Refusal>) -> i32
+    requires { ForOk answered (λ n. n < 2 ^ 31) }
+    ensures { result ≡ answer_of answered }
 {
-    -i32::from(refusal.cause.number())
+    match answered {
+        Ok(n) => n as i32,
+        Err(refusal) => -i32::from(u8::from(refusal.cause)),
+    }
 }
 
 /// The way of reading that the flag asks for.
+// C hands in a flag, since it has no `Reading`.
 fn way(strict: bool) -> Reading
     ensures { result ≡ way_of strict }
 {
@@ -64,6 +62,7 @@ fn pulses_of(octets: &[u8]) -> [Pulse; 6]
     ensures { take (length octets.now) result ≡ map pulse_of octets.now }
 {
     let mut row = [NONE; 6];
+    // By index, with no `zip`: what is written through one is not known afterwards.
     for (i, octet) in octets.iter().enumerate() {
         row[i] = pulse_of(*octet);
     }
@@ -71,17 +70,14 @@ fn pulses_of(octets: &[u8]) -> [Pulse; 6]
 }
 
 /// The house index of octets, or why they have none.
-fn written(width: u32, octets: &[u8]) -> i32
-    ensures { result ≡ answer_of (write_index width (map pulse_of octets.now)) }
+fn written(width: u32, octets: &[u8]) -> Result<u32, Refusal>
+    ensures { result ≡ write_index width (map pulse_of octets.now) }
 {
     if octets.len() > 6 {
-        return refused(Refusal::because(Cause::WrongNumber));
+        return Err(Cause::WrongNumber.into());
     }
     let row = pulses_of(octets);
-    match write_index(width, &row[0..octets.len()]) {
-        Ok(index) => index as i32,
-        Err(refusal) => refused(refusal),
-    }
+    write_index(width, &row[..octets.len()])
 }
 
 /// [`write_index`] for C: each pulse one octet, place + 32 × sign bit. Answers
@@ -91,23 +87,40 @@ pub fn vilchuqa_write_index(width: u32, pulses: &[u8]) -> i32
     ensures octet_tells_the_pulse { OctetTellsThePulse }
     ensures off_every_track { OffEveryTrack }
 {
-    written(width, pulses)
+    answer(written(width, pulses))
 }
 
 /// Writes the pulses into the front of `out`, as octets; answers their number.
-fn hand_out(pulses: &[Pulse], out: &mut [u8]) -> i32
-    requires { (length pulses.now ≤ 6) × (On 5 pulses.now) }
-    ensures answer { result ≡ answer_of (handed (length out.old) (Ok pulses.now)) }
+fn hand_out(pulses: &[Pulse], out: &mut [u8]) -> Result<u32, Refusal>
+    requires few { length pulses.now ≤ 6 }
+    requires on { On 5 pulses.now }
+    ensures answer { result ≡ handed (length out.old) (Ok pulses.now) }
     ensures buffer { out.new ≡ filled_octets out.old (Ok pulses.now) }
 {
-    let number = pulses.len();
-    if out.len() < number {
-        return refused(Refusal::because(Cause::BufferTooShort));
+    if out.len() < pulses.len() {
+        return Err(Cause::BufferTooShort.into());
     }
-    for i in 0..number {
-        out[i] = octet_of(pulses[i]);
+    // By index, with no `zip`: what is written through one is not known afterwards.
+    for (i, p) in pulses.iter().enumerate() {
+        out[i] = octet_of(*p);
     }
-    number as i32
+    Ok(pulses.len() as u32)
+}
+
+/// Reads an index into the front of `out`, as octets; answers their number.
+fn read_out(
+    how: Reading,
+    pulses: u32,
+    width: u32,
+    index: u32,
+    out: &mut [u8],
+) -> Result<u32, Refusal>
+    ensures answer { result ≡ handed (length out.old) (read_index how pulses width index) }
+    ensures buffer { out.new ≡ filled_octets out.old (read_index how pulses width index) }
+{
+    let mut row = [NONE; 6];
+    let number = read_index(how, pulses as usize, width, index, &mut row)?;
+    hand_out(&row[..number], out)
 }
 
 /// [`read_index`] for C, into octets. Answers the number of pulses, or minus
@@ -116,9 +129,5 @@ pub fn vilchuqa_read_index(pulses: u32, width: u32, index: u32, strict: bool, ou
     ensures answer { result ≡ answer_of (handed (length out.old) (read_index (way_of strict) pulses width index)) }
     ensures buffer { out.new ≡ filled_octets out.old (read_index (way_of strict) pulses width index) }
 {
-    let mut row = [NONE; 6];
-    match read_index(way(strict), pulses as usize, width, index, &mut row) {
-        Ok(number) => hand_out(&row[0..number], out),
-        Err(refusal) => refused(refusal),
-    }
+    answer(read_out(way(strict), pulses, width, index, out))
 }

@@ -1,5 +1,8 @@
-ghost use Rattle.std.specs.Prelude.{◌≡◌};
-ghost use Rattle.pulses.specs.Pulses.{bit as bit_of, opposite as opposite_of, alike as like_of};
+ghost use Rattle.std.specs.Prelude.{◌≡◌, Some};
+ghost use Rattle.pulses.specs.Pulses.{bit as bit_of, opposite as opposite_of};
+ghost use Rattle.pulses.specs.Texts.{sign_text, pulse_text};
+
+use std::fmt;
 
 /// The sign of a pulse.
 #[derive(Clone, Copy, PartialEq, Eq, Debug)]
@@ -8,18 +11,21 @@ pub enum Sign {
     Minus,
 }
 
-impl Sign {
-    /// The sign bit: 0 for plus, 1 for minus.
-    pub fn bit(self) -> u8
-        ensures { result ≡ bit_of self }
-    {
-        match self {
+/// The sign bit: 0 for plus, 1 for minus.
+impl From<Sign> for u8 {
+    ghost from_gives = { λ s n. n ≡ bit_of s };
+
+    fn from(sign: Sign) -> u8 {
+        match sign {
             Sign::Plus => 0,
             Sign::Minus => 1,
         }
     }
+}
 
+impl Sign {
     /// The other sign.
+    // No `Neg` or `Not`: a name tells the reader more than `-sign` or `!sign`.
     pub fn opposite(self) -> Sign
         ensures { result ≡ opposite_of self }
     {
@@ -28,14 +34,16 @@ impl Sign {
             Sign::Minus => Sign::Plus,
         }
     }
+}
 
-    /// Whether the two signs are one.
-    pub(crate) fn alike(self, other: Sign) -> bool
-        ensures { result ≡ like_of self other }
-    {
-        match self {
-            Sign::Plus => matches!(other, Sign::Plus),
-            Sign::Minus => matches!(other, Sign::Minus),
+/// `+` or `-`.
+impl fmt::Display for Sign {
+    ghost output = { λ s. Some (sign_text s) };
+
+    fn fmt<W: fmt::Write>(&self, f: &mut fmt::Formatter<W>) -> fmt::Result {
+        match *self {
+            Sign::Plus => write!(f, "+"),
+            Sign::Minus => write!(f, "-"),
         }
     }
 }
@@ -45,4 +53,14 @@ impl Sign {
 pub struct Pulse {
     pub place: u8,
     pub sign: Sign,
+}
+
+/// The sign and the place: `-7`.
+impl fmt::Display for Pulse {
+    ghost output = { λ p. Some (pulse_text p) };
+
+    fn fmt<W: fmt::Write>(&self, f: &mut fmt::Formatter<W>) -> fmt::Result {
+        let Pulse { place, sign } = *self;
+        write!(f, "{sign}{place}")
+    }
 }

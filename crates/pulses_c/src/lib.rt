@@ -9,6 +9,7 @@ ghost use Rattle.pulses.specs.Octets.{pulse_of, answer_of, filled_octets, way_of
 use pulses::export;
 
 /// The house index of pulses, or minus the number of the refusal.
+// Here again: a C name is exported by a static library, and no crate can use one.
 #[unsafe(no_mangle)]
 pub extern "C" fn vilchuqa_write_index(width: u32, pulses: &[u8]) -> i32
     ensures answer { result ≡ answer_of (write_index width (map pulse_of pulses.now)) }
@@ -20,6 +21,7 @@ pub extern "C" fn vilchuqa_write_index(width: u32, pulses: &[u8]) -> i32
 
 /// Writes the pulses of an index into the front of `out`; answers their
 /// number, or minus the number of the refusal, which leaves `out` as it was.
+// Here again, as the call above.
 #[unsafe(no_mangle)]
 pub extern "C" fn vilchuqa_read_index(
     pulses: u32,

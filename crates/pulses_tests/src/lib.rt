@@ -3,14 +3,15 @@
 
 #[cfg(test)]
 mod tests {
-    use pulses::index::{Reading, read_index, write_index};
+    use pulses::index::{Reading, index_bits, read_index, write_index};
     use pulses::pulse::{Pulse, Sign};
     use pulses::set::NONE;
     use refusals::cause::Cause;
     use refusals::refusal::Refusal;
+    use std::alloc::AllocError;
     use std::process::Abort;
 
-    // What a buffer holds before a call.
+    /// What a buffer holds before a call.
     const GUARD: Pulse = Pulse {
         place: 99,
         sign: Sign::Minus,
@@ -30,7 +31,7 @@ mod tests {
         }
     }
 
-    // Reads into a buffer of eight, and answers it too.
+    /// Reads into a buffer of eight, and answers it too.
     fn read(
         how: Reading,
         number: usize,
@@ -42,7 +43,7 @@ mod tests {
         (r, out)
     }
 
-    // A refusal that leaves the buffer as it was.
+    /// A refusal that leaves the buffer as it was.
     fn refused(rt: &impl Abort, how: Reading, number: usize, width: u32, index: u32, cause: Cause) {
         let (r, out) = read(how, number, width, index);
         assert_eq!(rt; r, Err(Refusal::because(cause)));
@@ -168,5 +169,26 @@ mod tests {
             ),
             Ok(3278481)
         );
+    }
+
+    #[test]
+    fn the_bits_of_an_index(rt: HostRuntime) {
+        assert_eq!(rt; index_bits(0, 4), 0);
+        assert_eq!(rt; index_bits(1, 5), 6);
+        assert_eq!(rt; index_bits(2, 4), 9);
+        assert_eq!(rt; index_bits(6, 4), 22);
+        assert_eq!(rt; index_bits(6, 0), 0);
+        assert_eq!(rt; index_bits(6, 255), 1528);
+        assert_eq!(rt; index_bits(7, 4), 0);
+    }
+
+    #[test]
+    fn pulses_are_printed_with_the_sign_first(rt: HostRuntime) -> Result<(), AllocError> {
+        let p = plus(15);
+        let q = minus(0);
+        let sign = q.sign;
+        let text = format!(in rt.alloc(); "{p} {q} {sign}")?;
+        assert_eq!(rt; text.as_str(), "+15 -0 -");
+        Ok(())
     }
 }

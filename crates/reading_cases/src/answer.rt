@@ -1,129 +1,150 @@
 use frames::frame::Frame;
 use modes::field::Field;
-use refusals::refusal::Refusal;
+use modes::plan::Part;
+use refusals::refusal::{Refusal, Spot};
 use sheets::line::Line;
-use std::alloc::Global;
-use std::io;
-use std::io::Write;
+use std::fmt;
+use std::fmt::Write;
 
 /// Up to so many frames an answer tells all delays.
 const SMALL: usize = 4;
 
-pub fn print_error<W: Write>(out: &mut W) -> io::Result<()> {
-    writeln!(out, "no answer")
+/// What a line is answered with.
+#[derive(Drop)]
+pub enum Answer {
+    /// Why the message, or the call, is refused.
+    Refused(Refusal),
+    /// All frames of a message.
+    Frames(Vec<Frame>),
+    /// One frame of a message.
+    One(Frame),
+    /// Two calls that have to agree do not.
+    Differ,
+    /// The line is no case, or memory is wanting.
+    Nothing,
 }
 
-fn print_part<W: Write>(out: &mut W, part: Option<usize>) -> io::Result<()> {
-    match part {
-        Some(n) => write!(out, " {n}"),
-        None => write!(out, " -"),
+impl fmt::Display for Answer {
+    fn fmt<W: fmt::Write>(&self, f: &mut fmt::Formatter<W>) -> fmt::Result {
+        match self {
+            Answer::Refused(refusal) => tell_refusal(f, *refusal),
+            Answer::Frames(frames) => tell_frames(f, frames),
+            Answer::One(frame) => tell_frame(f, frame),
+            Answer::Differ => f.write_str("the calls differ"),
+            Answer::Nothing => f.write_str("no answer"),
+        }
     }
 }
 
-pub fn print_refusal<W: Write>(out: &mut W, refusal: Refusal) -> io::Result<()> {
-    let number = refusal.cause.number();
-    write!(out, "R {number}")?;
-    let frame = match refusal.spot.frame {
-        Some(n) => Some(n as usize),
-        None => None,
-    };
-    print_part(out, frame)?;
-    print_part(out, refusal.spot.subframe)?;
-    print_part(out, refusal.spot.track)?;
-    print_part(out, refusal.spot.cell)?;
-    writeln!(out, "")
+/// A part of a spot: `-` where it is absent.
+#[derive(Clone, Copy)]
+struct Told<T>(Option<T>);
+
+impl<T: fmt::Display> fmt::Display for Told<T> {
+    fn fmt<W: fmt::Write>(&self, f: &mut fmt::Formatter<W>) -> fmt::Result {
+        match &self.0 {
+            Some(n) => write!(f, "{n}"),
+            None => f.write_str("-"),
+        }
+    }
 }
 
-/// FNV-1a of 32 bits, a text at a time.
+fn tell_refusal<W: fmt::Write>(f: &mut fmt::Formatter<W>, refusal: Refusal) -> fmt::Result {
+    let Spot {
+        frame,
+        subframe,
+        track,
+        cell,
+    } = refusal.spot;
+    write!(
+        f,
+        "R {} {} {} {} {}",
+        u8::from(refusal.cause),
+        Told(frame),
+        Told(subframe),
+        Told(track),
+        Told(cell),
+    )
+}
+
+/// FNV-1a of 32 bits over all text that is written.
 #[derive(Clone, Copy)]
 struct Checksum(u32);
 
-impl Checksum {
-    fn new() -> Checksum {
-        Checksum(2_166_136_261)
-    }
-
-    fn add(&mut self, octets: &[u8]) {
-        for octet in octets {
+impl fmt::Write for Checksum {
+    fn write_str(&mut self, text: &str) -> fmt::Result {
+        for octet in text.as_bytes() {
             self.0 = (self.0 ^ u32::from(*octet)).wrapping_mul(16_777_619);
         }
-    }
-
-    fn add_line(&mut self, line: Line, heap: Global) -> io::Result<()> {
-        self.add(format!(in heap; "{line}\n")?.as_bytes());
         Ok(())
     }
 }
 
 /// The checksum of the delay sheet of the frames.
-fn sheet_sum(frames: &[Frame], heap: Global) -> io::Result<u32> {
-    let mut sum = Checksum::new();
+// Not by the crate `sheets`, whose text is compared for itself.
+fn sheet_sum(frames: &[Frame]) -> Result<u32, fmt::Error> {
+    let mut sum = Checksum(2_166_136_261);
     for (n, frame) in frames.iter().enumerate() {
         for (s, quarters) in frame.delays().iter().enumerate() {
-            sum.add_line(
-                Line::Delay {
-                    frame: n,
-                    subframe: s,
-                    quarters: *quarters,
-                },
-                heap,
-            )?;
+            let line = Line::Delay {
+                frame: n,
+                subframe: s,
+                quarters: *quarters,
+            };
+            writeln!(sum, "{line}")?;
         }
     }
-    sum.add_line(
-        Line::End {
-            frames: frames.len(),
-        },
-        heap,
-    )?;
+    let end = Line::End {
+        frames: frames.len(),
+    };
+    writeln!(sum, "{end}")?;
     Ok(sum.0)
 }
 
-pub fn print_reading<W: Write>(out: &mut W, frames: &[Frame], heap: Global) -> io::Result<()> {
+/// The number of frames, the checksum of their sheet, and all delays of a few.
+fn tell_frames<W: fmt::Write>(f: &mut fmt::Formatter<W>, frames: &[Frame]) -> fmt::Result {
     let count = frames.len();
-    let sum = sheet_sum(frames, heap)?;
-    write!(out, "ok {count} {sum:08x}")?;
+    let sum = sheet_sum(frames)?;
+    write!(f, "ok {count} {sum:08x}")?;
     if count <= SMALL {
-        for frame in frames {
-            for quarters in frame.delays() {
-                write!(out, " {quarters}")?;
-            }
+        for quarters in frames.iter().flat_map(|frame| frame.delays()) {
+            write!(f, " {quarters}")?;
         }
     }
-    writeln!(out, "")
+    Ok(())
 }
 
-fn print_field<W: Write>(out: &mut W, frame: &Frame, field: Field) -> io::Result<()> {
+/// A field, if the mode has it.
+fn tell_field<W: fmt::Write>(
+    f: &mut fmt::Formatter<W>,
+    frame: &Frame,
+    field: Field,
+) -> fmt::Result {
     match frame.get(field) {
-        Ok(value) => write!(out, " {value}"),
+        Ok(value) => write!(f, " {value}"),
         Err(_) => Ok(()),
     }
 }
 
 /// The fields that the mode has, in the order of their bits, and the samples
 /// that are not 0.
-pub fn print_frame<W: Write>(out: &mut W, frame: &Frame) -> io::Result<()> {
-    let mode = frame.mode().number();
-    write!(out, "F {mode}")?;
-    print_field(out, frame, Field::Voice)?;
-    for k in 0..7 {
-        print_field(out, frame, Field::Spectrum(k))?;
+fn tell_frame<W: fmt::Write>(f: &mut fmt::Formatter<W>, frame: &Frame) -> fmt::Result {
+    let mode = frame.mode();
+    write!(f, "F {}", u8::from(mode))?;
+    for slot in mode.slots() {
+        if let Part::Value(field) = slot.part {
+            tell_field(f, frame, field)?;
+        }
     }
-    for s in 0..4 {
-        print_field(out, frame, Field::Delay(s))?;
-        print_field(out, frame, Field::FilterFlag(s))?;
-        print_field(out, frame, Field::Gain(s))?;
-        print_field(out, frame, Field::HighBandGain(s))?;
-    }
-    write!(out, " /")?;
+    f.write_str(" /")?;
     let mut samples = [0i8; 256];
     if frame.excitation(&mut samples).is_err() {
-        return print_error(out);
+        return f.write_str("no answer");
     }
     for (k, amplitude) in samples.iter().enumerate() {
         if *amplitude != 0 {
-            write!(out, " {k} {amplitude}")?;
+            write!(f, " {k} {amplitude}")?;
         }
     }
-    writeln!(out, "")
+    Ok(())
 }

@@ -2,6 +2,8 @@ use pulses::index::Reading;
 use std::alloc::{AllocError, Global};
 
 /// What a line has to be read as.
+// The three are read by calls of different types, so a closure in their place
+// would hide which carrier is read.
 #[derive(Clone, Copy)]
 pub enum Kind {
     /// A message of octets.
@@ -42,6 +44,8 @@ impl<'a> Case<'a> {
 }
 
 /// The value of a hexadecimal digit; any other character counts as 0.
+// Not by `to_digit`, which takes capitals too. No `Option`: the model writes no
+// other character.
 fn digit(character: u8) -> u8 {
     match character {
         b'0'..=b'9' => character - b'0',
@@ -52,24 +56,24 @@ fn digit(character: u8) -> u8 {
 
 /// The octets that pairs of hexadecimal digits spell.
 pub fn octets(text: &[u8], heap: Global) -> Result<Vec<u8>, AllocError> {
-    let mut octets = Vec::new(heap);
-    for pair in text.chunks_exact(2) {
-        if let [high, low] = pair {
-            octets.push((digit(*high) << 4) | digit(*low))?;
-        }
-    }
-    Ok(octets)
+    text.chunks_exact(2)
+        .filter_map(|pair| match pair {
+            [high, low] => Some((digit(*high) << 4) | digit(*low)),
+            _ => None,
+        })
+        .collect(heap)
 }
 
-/// The words of cells: `0`, `1`, and any other character for a bad one.
-pub fn words(text: &[u8], heap: Global) -> Result<Vec<u16>, AllocError> {
-    let mut words = Vec::new(heap);
-    for cell in text {
-        words.push(match *cell {
-            b'0' => 0x007F,
-            b'1' => 0x0081,
-            _ => 0x1234,
-        })?;
+/// The word of a cell: `0`, `1`, and any other character for a bad one.
+fn word(cell: u8) -> u16 {
+    match cell {
+        b'0' => 0x007F,
+        b'1' => 0x0081,
+        _ => 0x1234,
     }
-    Ok(words)
+}
+
+/// The words of cells.
+pub fn words(text: &[u8], heap: Global) -> Result<Vec<u16>, AllocError> {
+    text.iter().map(|cell| word(*cell)).collect(heap)
 }

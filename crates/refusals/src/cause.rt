@@ -32,12 +32,12 @@ pub enum Layer {
     Message,
 }
 
-impl Cause {
-    /// The fixed number of the cause: `Cause::BothSigns.number()` is 6.
-    pub fn number(self) -> u8
-        ensures { result ≡ number_of self }
-    {
-        match self {
+/// The fixed number of the cause: `u8::from(Cause::BothSigns)` is 6.
+impl From<Cause> for u8 {
+    ghost from_gives = { λ c n. n ≡ number_of c };
+
+    fn from(cause: Cause) -> u8 {
+        match cause {
             Cause::NoSuchMode => 1,
             Cause::NoSuchField => 2,
             Cause::ValueTooLarge => 3,
@@ -57,7 +57,9 @@ impl Cause {
             Cause::BufferTooShort => 17,
         }
     }
+}
 
+impl Cause {
     /// The layer of the cause: `Cause::BothSigns.layer()` is `Layer::Index`.
     pub fn layer(self) -> Layer
         ensures { result ≡ layer_of self }
@@ -81,6 +83,7 @@ impl Cause {
 }
 
 impl Layer {
+    // No `Display`: the text itself is handed out, by a call that cannot fail.
     /// The layer's name: `Layer::Index.name()` is `"index"`.
     pub fn name(self) -> &'static str
         ensures { result.now ≡ name_of self }

@@ -48,3 +48,12 @@ impl Refusal {
         }
     }
 }
+
+/// A refusal that names no place: `?` turns a cause into it.
+impl From<Cause> for Refusal {
+    ghost from_gives = { λ c r. r ≡ because c };
+
+    fn from(cause: Cause) -> Refusal {
+        Refusal::because(cause)
+    }
+}

@@ -24,9 +24,6 @@ line_more before bs ls k l h e b =
 frame_line : (n : ℕ) (f : Frame) (s : ℕ) → s < 4 → (d : Line) → get_or (frame_lines n f) s d ≡ Delay n s (get_or (delay f 0 ∷ delay f 1 ∷ delay f 2 ∷ delay f 3 ∷ []) s 0)
 frame_line n f = by_four (λ s. (d : Line) → get_or (frame_lines n f) s d ≡ Delay n s (get_or (delay f 0 ∷ delay f 1 ∷ delay f 2 ∷ delay f 3 ∷ []) s 0)) (λ d. refl) (λ d. refl) (λ d. refl) (λ d. refl)
 
-pub delays_none : (bs : List ℕ) (n : ℕ) (f : Frame) → bs ≡ bs ++ text (take 0 (frame_lines n f))
-delays_none bs n f = sym (append-nil bs)
-
 pub delays_more : (before bs : List ℕ) (n : ℕ) (f : Frame) (qs : List ℕ) (s : ℕ) → s < 4 → qs ≡ delay f 0 ∷ delay f 1 ∷ delay f 2 ∷ delay f 3 ∷ []
     → bs ≡ before ++ text (take s (frame_lines n f)) → bs ++ text (Delay n s (get_or qs s 0) ∷ []) ≡ before ++ text (take (s + 1) (frame_lines n f))
 delays_more before bs n f qs s h e b =

@@ -4,5 +4,7 @@
 
 /// A line of a sheet.
 pub mod line;
+/// The line of a refusal.
+mod refused;
 /// The sheet of a message.
 pub mod sheet;

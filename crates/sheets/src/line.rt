@@ -18,6 +18,8 @@ pub enum Line {
         frames: usize,
     },
     /// Why there is no sheet: the number of the refusal, and where it was met.
+    // No `Refusal`: a line has the three numbers that it prints, and each of
+    // its numbers may be any.
     Refused {
         number: u8,
         frame: u32,

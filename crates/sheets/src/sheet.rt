@@ -9,7 +9,6 @@ use frames::frame::Frame;
 use messages::error::ReadError;
 use messages::reading::read_frames;
 use pulses::index::Reading;
-use refusals::refusal::Refusal;
 use std::alloc::{AllocError, Global};
 
 /// Adds a line.
@@ -23,14 +22,13 @@ fn add_line(text: &mut String, line: Line) -> Result<(), AllocError>
 fn add_delays(text: &mut String, n: usize, frame: &Frame) -> Result<(), AllocError>
     ensures { OnOk result (string_bytes text.new ≡ string_bytes text.old ++ text_of (frame_lines n frame.now)) }
 {
-    let delays = frame.delays();
-    for s in 0..4 {
+    for (s, quarters) in frame.delays().iter().enumerate() {
         add_line(
             text,
             Line::Delay {
                 frame: n,
                 subframe: s,
-                quarters: delays[s],
+                quarters: *quarters,
             },
         )?;
     }
@@ -52,23 +50,12 @@ fn add_frames(text: &mut String, frames: &[Frame]) -> Result<(), AllocError>
     )
 }
 
-/// The line of a refusal.
-fn refused(refusal: Refusal) -> Line
-    ensures { result ≡ refused_line refusal }
-{
-    Line::Refused {
-        number: refusal.cause.number(),
-        frame: refusal.spot.frame.unwrap_or(0),
-        cell: refusal.spot.cell.unwrap_or(0),
-    }
-}
-
 /// Adds the line of a refusal, where the message was refused.
 fn add_refusal(text: &mut String, error: ReadError) -> Result<(), AllocError>
     ensures { OnOk result ((e : ARefusal) × (error ≡ RefusedWith e) × (string_bytes text.new ≡ string_bytes text.old ++ text_of (refused_line e ∷ []))) }
 {
     match error {
-        ReadError::Refused(refusal) => add_line(text, refused(refusal)),
+        ReadError::Refused(refusal) => add_line(text, Line::from(refusal)),
         ReadError::NoMemory => Err(AllocError),
     }
 }

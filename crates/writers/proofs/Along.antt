@@ -1,17 +1,16 @@
 -- The cells that are left to put after some slots of a plan.
-use Rattle.std.proofs.Common.{◌≡◌, ℕ, ◌+◌, ◌≤◌, List, ◌∷◌, ◌++◌, map, length, drop, Some, None, refl, sym, ap, ◌∙◌, append_assoc, append-nil, length-append, arith}
+use Rattle.std.proofs.Common.{◌≡◌, ℕ, ◌+◌, ◌≤◌, List, [], ◌∷◌, ◌++◌, map, length, refl, sym, ap, ◌∙◌, append_assoc, append-nil, length-append, arith}
 use Rattle.std.proofs.lemmas.List.{map-append}
 use Rattle.carriers.specs.Bits.{bit_of}
 use Rattle.carriers.specs.Cells.{Cell, bit}
 use Rattle.carriers.specs.Fields.{bits_of}
 use Rattle.carriers.proofs.Rows.{bits_length}
 use Rattle.modes.specs.declared.plan.Slot.{Slot}
-use Rattle.modes.specs.Plan.{plan, nth, total}
+use Rattle.modes.specs.Plan.{plan, total}
 use Rattle.frames.specs.declared.frame.Frame.{Frame}
 use Rattle.frames.specs.Bits.{part_value, spell, frame_bits}
 use Rattle.frames.specs.Bits.{bits_of as numeral_bits_of}
 use Rattle.messages.specs.Written.{as_cells}
-use Rattle.messages.proofs.Steps.{at_some, at_none}
 use Rattle.messages.proofs.Housed.{bits_cells}
 
 -- the cells of a frame in some slots
@@ -28,30 +27,24 @@ pub cells_start : (f : Frame) → slot_cells f (plan f.mode) ≡ as_cells (frame
 unfolding slot_cells frame_bits
 cells_start f = refl
 
-pub cells_more : (f : Frame) (k : ℕ) (s : Slot) (before after : List Cell) (v : ℕ) → Some s ≡ nth (plan f.mode) k → v ≡ part_value f s.part → after ≡ before ++ bits_of s.width v
-    → after ++ slot_cells f (drop (k + 1) (plan f.mode)) ≡ before ++ slot_cells f (drop k (plan f.mode))
-cells_more f k s before after v e ev ea =
-    let rest = slot_cells f (drop (k + 1) (plan f.mode)) in
-    ap (λ (l : List Cell). l ++ rest) (ea ∙ ap (λ (n : ℕ). before ++ bits_of s.width n) ev)
-    ∙ append_assoc before (bits_of s.width (part_value f s.part)) rest
-    ∙ ap (λ (l : List Cell). before ++ l) (sym (cells_first f s (drop (k + 1) (plan f.mode))) ∙ ap (slot_cells f) (sym (at_some (plan f.mode) k s e)))
+pub cells_more : (f : Frame) (ss rest : List Slot) (s : Slot) (before after : List Cell) (v : ℕ) → ss ≡ s ∷ rest → v ≡ part_value f s.part → after ≡ before ++ bits_of s.width v
+    → after ++ slot_cells f rest ≡ before ++ slot_cells f ss
+cells_more f ss rest s before after v e ev ea =
+    ap (λ (l : List Cell). l ++ slot_cells f rest) (ea ∙ ap (λ (n : ℕ). before ++ bits_of s.width n) ev)
+    ∙ append_assoc before (bits_of s.width (part_value f s.part)) (slot_cells f rest)
+    ∙ ap (λ (l : List Cell). before ++ l) (sym (cells_first f s rest) ∙ ap (slot_cells f) (sym e))
 
-pub cells_end : (f : Frame) (k : ℕ) (cells : List Cell) → None ≡ nth (plan f.mode) k → cells ++ slot_cells f (drop k (plan f.mode)) ≡ cells
+pub cells_end : (f : Frame) (ss : List Slot) (cells : List Cell) → ss ≡ [] → cells ++ slot_cells f ss ≡ cells
 unfolding slot_cells
-cells_end f k cells e = rw (at_none (plan f.mode) k e) (append-nil cells)
+cells_end f ss cells e = rw e (append-nil cells)
 
 -- the room that is left
-pub length_more : (before after : List Cell) (w v : ℕ) → after ≡ before ++ bits_of w v → length after ≡ length before + w
+length_more : (before after : List Cell) (w v : ℕ) → after ≡ before ++ bits_of w v → length after ≡ length before + w
 length_more before after w v e = ap length e ∙ length-append before (bits_of w v) ∙ ap (λ n. length before + n) (bits_length w v)
 
-pub room_here : (k room : ℕ) (ss : List Slot) (s : Slot) (before : List Cell) → Some s ≡ nth ss k → length before + total (drop k ss) ≤ room → length before + s.width ≤ room
-room_here k room ss s before e h =
-    let t : total (drop k ss) ≡ s.width + total (drop (k + 1) ss) = ap total (at_some ss k s e) in
-    omega arith
-
-pub room_more : (k room : ℕ) (ss : List Slot) (s : Slot) (before after : List Cell) (v : ℕ) → Some s ≡ nth ss k → after ≡ before ++ bits_of s.width v → length before + total (drop k ss) ≤ room
-    → length after + total (drop (k + 1) ss) ≤ room
-room_more k room ss s before after v e ea h =
-    let t : total (drop k ss) ≡ s.width + total (drop (k + 1) ss) = ap total (at_some ss k s e) in
+pub room_more : (room : ℕ) (ss rest : List Slot) (s : Slot) (before after : List Cell) (v : ℕ) → ss ≡ s ∷ rest → after ≡ before ++ bits_of s.width v → length before + total ss ≤ room
+    → length after + total rest ≤ room
+room_more room ss rest s before after v e ea h =
+    let t : total ss ≡ s.width + total rest = ap total e in
     let l = length_more before after s.width v ea in
     omega arith

@@ -11,10 +11,13 @@ ghost use Rattle.writers.specs.Putting.{Indices};
 use carriers::fields::put_bits;
 use carriers::traits::WriteCarrier;
 use frames::frame::Frame;
+use messages::filler;
 use modes::field::Field;
 use modes::plan::Part;
 
 /// Puts a field for which there is room.
+// Each function here asks for other room and promises other cells, so no one
+// fact on the carrier could stand in a type round it.
 fn put_field<C: WriteCarrier>(carrier: &mut C, value: u32, width: u32)
     requires { length (C.cells carrier.old) + width ≤ C.room carrier.old }
     ensures fixed { C.room carrier.new ≡ C.room carrier.old }
@@ -25,17 +28,16 @@ fn put_field<C: WriteCarrier>(carrier: &mut C, value: u32, width: u32)
 }
 
 /// The value of a field; 0 where the mode lacks it.
+// No `Option`: a record keeps 0 for a field that its mode lacks.
 fn field_value(frame: &Frame, field: Field) -> u32
     ensures { result ≡ value_of frame.now field }
 {
-    match frame.get(field) {
-        Ok(value) => value as u32,
-        Err(_) => 0,
-    }
+    frame.get(field).map_or(0, u32::from)
 }
 
 /// What a frame has for a part of its plan, with the house indices of its
 /// tracks at hand.
+#[tactic(auto, using(crate::proofs::Parts::low_there, crate::proofs::Parts::high_there))]
 fn part_value(frame: &Frame, indices: &[u32; 16], part: Part) -> u32
     requires tracks { Indices frame.now indices.now }
     requires has { 0 < part_width frame.now.mode part }
@@ -59,15 +61,9 @@ fn put_slots<C: WriteCarrier>(carrier: &mut C, frame: &Frame)
     ensures put { C.cells carrier.new ≡ C.cells carrier.old ++ as_cells (frame_bits frame.now) }
 {
     let indices = frame.indices();
-    let mode = frame.mode();
-    let mut k = 0;
-    while let Some(slot) = mode.slot_at(k) {
-        put_field(
-            carrier,
-            part_value(frame, &indices, slot.part),
-            slot.width as u32,
-        );
-        k += 1;
+    for slot in frame.mode().slots() {
+        let value = part_value(frame, &indices, slot.part);
+        put_field(carrier, value, u32::from(slot.width));
     }
 }
 
@@ -78,16 +74,8 @@ pub(crate) fn put_frame<C: WriteCarrier>(carrier: &mut C, frame: &Frame)
     ensures home { C.home carrier.new ≡ C.home carrier.old }
     ensures put { C.cells carrier.new ≡ C.cells carrier.old ++ frame_cells frame.now }
 {
-    put_field(carrier, frame.mode().number() as u32, 4);
+    put_field(carrier, u32::from(u8::from(frame.mode())), 4);
     put_slots(carrier, frame);
-}
-
-/// How many cells there are up to the next multiple of eight.
-pub(crate) fn filler(at: usize) -> u32
-    ensures is { result ≡ filler_of at }
-    ensures few { result < 8 }
-{
-    ((8 - at % 8) % 8) as u32
 }
 
 /// Puts 1111, and zeros up to a multiple of eight.
@@ -99,5 +87,5 @@ pub(crate) fn put_end<C: WriteCarrier>(carrier: &mut C)
 {
     let fill = filler(carrier.len() + 4);
     put_field(carrier, 15, 4);
-    put_field(carrier, 0, fill);
+    put_field(carrier, 0, u32::from(fill));
 }

@@ -4,28 +4,9 @@ ghost use Rattle.frames.specs.Bits.{frame_bits, Agree, LengthIsPlanned, ReadingU
 use crate::frame::Frame;
 
 impl Frame {
-    /// Whether both records have the same mode, fields and pulses.
-    fn same_parts(&self, other: &Frame) -> bool
-        ensures { Decides result (self.now ≡ other.now) }
-    {
-        if self.mode != other.mode {
-            return false;
-        }
-        if self.values != other.values {
-            return false;
-        }
-        self.tracks == other.tracks
-    }
-
-    /// Whether both records are one.
-    fn same(&self, other: &Frame) -> bool
-        ensures { Decides result (self.now ≡ other.now) }
-    {
-        self.same_parts(other)
-    }
-
     /// Whether both records are of one mode and agree in every field that is
     /// no pulse field and in excitation: just then their bits are equal.
+    #[tactic(auto, using(crate::proofs::Matching::same_records, crate::proofs::Matching::same_agree, crate::proofs::Matching::same_bits, crate::proofs::Written::length_is_planned, crate::proofs::Written::reading_undoes_writing, crate::proofs::Agreeing::equal_bits_agree, crate::proofs::Written::record_is_its_parts))]
     pub fn agrees(&self, other: &Frame) -> bool
         ensures agree { Decides result ((self.now.mode ≡ other.now.mode) × Agree self.now other.now) }
         ensures bits { Decides result ((self.now.mode ≡ other.now.mode) × (frame_bits self.now ≡ frame_bits other.now)) }
@@ -36,6 +17,6 @@ impl Frame {
         ensures equal { EqualBitsAgree }
         ensures parts { RecordIsItsParts }
     {
-        self.same(other)
+        self == other
     }
 }

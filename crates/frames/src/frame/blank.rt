@@ -7,7 +7,6 @@ ghost use Rattle.frames.specs.Frames.{Blank};
 use crate::frame::Frame;
 use modes::mode::Mode;
 use pulses::set::NONE;
-use refusals::cause::Cause;
 use refusals::refusal::Refusal;
 
 impl Frame {
@@ -18,21 +17,12 @@ impl Frame {
     pub fn blank(number: u8) -> Result<Frame, Refusal>
         ensures { MatchResult result (λ f. (number_of f.mode ≡ number) × Blank f) (λ e. (9 ≤ number) × (e ≡ because_of NoSuchMode)) }
     {
-        match Mode::from_number(number) {
-            Some(mode) => Ok(Frame::of(mode)),
-            None => Err(Refusal::because(Cause::NoSuchMode)),
-        }
+        let mode = Mode::try_from(number)?;
+        Ok(Frame::of(mode))
     }
 
     /// The blank record of a mode.
     pub fn of(mode: Mode) -> Frame
-        ensures mode { result.mode ≡ mode }
-        ensures blank { Blank result }
-    {
-        Frame::cleared(mode)
-    }
-
-    fn cleared(mode: Mode) -> Frame
         ensures mode { result.mode ≡ mode }
         ensures blank { Blank result }
     {

@@ -32,14 +32,7 @@ fn short_base(q: u16) -> u16
     ensures is { result ≡ short_base q }
     ensures small { result ≤ 216 }
 {
-    let base = (q + 2) / 4 - 8;
-    if base < 34 {
-        34
-    } else if base > 216 {
-        216
-    } else {
-        base
-    }
+    ((q + 2) / 4 - 8).clamp(34, 216)
 }
 
 /// The quarter samples of a step of a short delay field.
@@ -52,7 +45,6 @@ fn step(bits: u8) -> u16
 
 /// The last subframe up to `subframe` whose delay has 8 or 9 bits.
 fn last_long(mode: Mode, subframe: usize) -> usize
-    requires { subframe < 4 }
     ensures is { result ≡ long_before mode subframe }
     ensures before { result ≤ subframe }
 {
@@ -70,13 +62,13 @@ fn last_long(mode: Mode, subframe: usize) -> usize
 }
 
 impl Frame {
-    /// The delay field of a subframe.
+    /// The delay field of a subframe; 0 where the mode has no such field.
+    // No `Option`: a record keeps 0 for a field that its mode lacks.
     fn held(&self, subframe: usize) -> u16
-        requires { subframe < 4 }
         ensures is { result ≡ value_of self.now (DelayOf subframe) }
         ensures small { result < 512 }
     {
-        self.values[8 + subframe]
+        self.get(Field::Delay(subframe)).unwrap_or(0)
     }
 
     /// The delay of a subframe, in quarter samples.
@@ -105,5 +97,5 @@ impl Frame {
 pub fn microseconds(q: u16) -> u32
     ensures { result ≡ microseconds_of q }
 {
-    q as u32 * 625 / 32
+    u32::from(q) * 625 / 32
 }

@@ -8,16 +8,14 @@ impl Frame {
     /// The house index of the pulses of a track; 0 where the mode has no such
     /// track.
     fn index(&self, subframe: usize, track: usize) -> u32
-        requires { (subframe < 4) × (track < 4) }
         ensures { result ≡ index_of self.now subframe track }
     {
-        let count = self.mode.pulses_in(subframe, track);
-        let row = self.tracks[4 * subframe + track];
-        match write_index(self.mode.track_width() as u32, &row[0..count]) {
-            Ok(index) => index,
-            // only where there is no pulse
-            Err(_) => 0,
-        }
+        // refused only where there is no pulse
+        write_index(
+            u32::from(self.mode.track_width()),
+            self.pulses(subframe, track),
+        )
+        .unwrap_or(0)
     }
 
     /// The house indices of all tracks, that of track t of subframe s at
@@ -25,10 +23,6 @@ impl Frame {
     pub fn indices(&self) -> [u32; 16]
         ensures { (s t : ℕ) → s < 4 → t < 4 → slice_index result (4 * s + t) ≡ index_of self.now s t }
     {
-        let mut indices = [0u32; 16];
-        for at in 0..16 {
-            indices[at] = self.index(at / 4, at % 4);
-        }
-        indices
+        std::array::from_fn(|at| self.index(at / 4, at % 4))
     }
 }

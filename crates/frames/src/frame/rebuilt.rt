@@ -3,7 +3,6 @@ ghost use Rattle.frames.specs.Frames.{FieldCopied, TrackCopied};
 
 use crate::frame::Frame;
 use modes::field::{CELLS, Field};
-use pulses::set::NONE;
 
 impl Frame {
     /// Sets a field of `to` to this record's, if the mode has it.
@@ -21,10 +20,7 @@ impl Frame {
         requires mode { to.old.mode ≡ self.now.mode }
         ensures { TrackCopied self.now to.old to.new subframe track }
     {
-        let mut row = [NONE; 6];
-        if let Ok(n) = self.track(subframe, track, &mut row) {
-            let _ = to.set_track(subframe, track, &row[0..n]);
-        }
+        let _ = to.set_track(subframe, track, self.pulses(subframe, track));
     }
 
     /// The blank record of the mode with every field and every track set
@@ -33,11 +29,13 @@ impl Frame {
         ensures { result ≡ self.now }
     {
         let mut made = Frame::of(self.mode);
-        for cell in 0..CELLS {
-            self.copy_field(&mut made, Field::at(cell));
+        for field in (0..CELLS).map(Field::at) {
+            self.copy_field(&mut made, field);
         }
-        for at in 0..16 {
-            self.copy_track(&mut made, at / 4, at % 4);
+        for subframe in 0..4 {
+            for track in 0..4 {
+                self.copy_track(&mut made, subframe, track);
+            }
         }
         made
     }

@@ -1,15 +1,19 @@
-use Rattle.carriers.proofs.Runs.{put_back, put_kept, fields_read_back}
+use Rattle.std.proofs.Common.{◌∙◌, arith}
+use Rattle.carriers.proofs.Rows.{row_more, row_done}
+use Rattle.carriers.proofs.Runs.{put_back, put_kept}
 use Rattle.carriers.proofs.fields.put_bits.Goals as goal
 
-pub returns : goal.returns
-returns g c =
-    let said = c.put_field.ensures in
-    record {
-      fixed = said.fixed;
-      home = said.home;
-      put = said.put;
-      same = said.same;
-      back = put_back _ _ _ c.args.value c.args.width c.put_field.result said.put;
-      kept = put_kept _ _ _ c.args.value c.args.width c.put_field.result said.put;
-      all = fields_read_back;
-    }
+pub loop-place-preserved : goal.loop-place-preserved
+loop-place-preserved g c =
+    let said = c.in_ok-put.ensures in
+    let inv = c.loop-place.invariant in
+    let on = row_more (g.C.ReadCarrier.cells c.loop-place.carrier) (g.C.ReadCarrier.cells c.put.new.self) _ c.loop-place.place c.args.value (g.C.WriteCarrier.room c.loop-place.carrier) c.at.result (omega arith) c.at.ensures said.put.1 inv.fits inv.whole in
+    record { fixed = said.fixed ∙ inv.fixed; home = said.home ∙ inv.home; fits = omega (arith, on.0); whole = on.1 }
+
+pub returns-clause-back : goal.returns-clause-back
+returns-clause-back g c =
+    put_back _ _ c.args.value c.args.width (row_done _ _ c.loop-place.place c.args.value c.loop-place-test.false c.loop-place.invariant.whole)
+
+pub returns-clause-kept : goal.returns-clause-kept
+returns-clause-kept g c at w v =
+    put_kept _ _ c.args.value c.args.width at w v (row_done _ _ c.loop-place.place c.args.value c.loop-place-test.false c.loop-place.invariant.whole)

@@ -1,16 +1,11 @@
-use Rattle.pulses.proofs.CallLaws.{reads_by_the_rules, every_number_has_one_set, strict_is_open, accepts_exactly_what_is_written}
+use Rattle.pulses.proofs.CallLaws.{every_number_has_one_set}
 use Rattle.pulses.proofs.index.read_index.Goals as goal
 
-pub returns : goal.returns
-returns c =
-    let n = c.args.number in
-    let M = c.args.width in
-    let i = c.args.index in
-    record {
-      answer = c.read_into.ensures.answer;
-      buffer = c.read_into.ensures.buffer;
-      reads_by_the_rules = reads_by_the_rules c.args.how n M i;
-      every_number_has_one_set = every_number_has_one_set n M i;
-      strict_is_open = strict_is_open n M i;
-      accepts_exactly_what_is_written = accepts_exactly_what_is_written n M i;
-    }
+pub returns-in_err-row-clause-every_number_has_one_set : goal.returns-in_err-row-clause-every_number_has_one_set
+returns-in_err-row-clause-every_number_has_one_set c = every_number_has_one_set c.args.number c.args.width c.args.index
+
+pub returns-then-out-number-clause-every_number_has_one_set : goal.returns-then-out-number-clause-every_number_has_one_set
+returns-then-out-number-clause-every_number_has_one_set c = every_number_has_one_set c.args.number c.args.width c.args.index
+
+pub returns-clause-every_number_has_one_set : goal.returns-clause-every_number_has_one_set
+returns-clause-every_number_has_one_set c = every_number_has_one_set c.args.number c.args.width c.args.index

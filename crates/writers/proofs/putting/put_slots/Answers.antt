@@ -1,61 +1,44 @@
-use Rattle.std.proofs.Common.{◌≡◌, ◌++◌, Some, None, sym, refl, ap, ◌∙◌, arith}
-use Rattle.modes.specs.declared.mode.Mode.{Mode}
-use Rattle.modes.specs.Plan.{plan, nth}
-use Rattle.messages.proofs.Steps.{Sound, slot_sound}
-use Rattle.messages.proofs.Building.{slot_wide}
-use Rattle.writers.proofs.Along.{cells_start, cells_more, cells_end, room_here, room_more}
+use Rattle.std.proofs.Common.{◌≡◌, ◌++◌, refl, sym, ap, ◌∙◌, arith}
+use Rattle.carriers.specs.Fields.{bits_of}
+use Rattle.modes.specs.declared.slots.Slots.{Slots}
+use Rattle.modes.specs.Plan.{plan}
+use Rattle.modes.specs.Slots.{slots_left}
+use Rattle.writers.proofs.Along.{slot_cells, cells_start, cells_more, cells_end, room_more}
 use Rattle.writers.proofs.putting.put_slots.Goals as goal
 
 pub loop-slot-init : goal.loop-slot-init
 loop-slot-init g c =
+    let f = c.args.frame.now in
     let cells = g.C.ReadCarrier.cells c.args.carrier.now in
-    (refl, refl, omega arith, c.requires, ap (λ l. cells ++ l) (cells_start c.args.frame.now))
-
-pub part_value-requires-clause-has : goal.part_value-requires-clause-has
-part_value-requires-clause-has g c =
-    let f = c.args.frame.now in
-    let slot = c.in-Some.slot in
-    let said : Some slot ≡ nth (plan f.mode) c.loop-slot.k = c.in-Some.ensures.is ∙ ap (λ (m : Mode). nth (plan m) c.loop-slot.k) c.mode-mode.ensures in
-    let w = slot_wide f.mode c.loop-slot.k slot said in
-    omega arith
-
-pub put_field-requires : goal.put_field-requires
-put_field-requires g c =
-    let f = c.args.frame.now in
-    let l = c.loop-slot in
-    let slot = c.in-Some.slot in
-    let said : Some slot ≡ nth (plan f.mode) l.k = c.in-Some.ensures.is ∙ ap (λ (m : Mode). nth (plan m) l.k) c.mode-mode.ensures in
-    room_here l.k (g.C.WriteCarrier.room l.carrier) (plan f.mode) slot (g.C.ReadCarrier.cells l.carrier) said l.invariant.3
-
-pub loop-slot-smaller : goal.loop-slot-smaller
-loop-slot-smaller g c =
-    let s : Sound c.loop-slot.k c.in-Some.slot = slot_sound c.mode-mode.result c.loop-slot.k c.in-Some.slot c.in-Some.ensures.is in
-    omega (arith, s.1)
+    let same = c.into_iter-slot-iterator.ensures.into_iter_gives in
+    let slots = c.slots-slot-items.ensures in
+    let left : slots_left c.into_iter-slot-iterator.result ≡ plan f.mode = ap slots_left same ∙ slots.all ∙ ap plan c.mode.ensures in
+    (refl, refl, ap (λ (s : Slots). s.mode) same ∙ slots.mode ∙ c.mode.ensures, rw left c.requires, ap (λ l. cells ++ l) (ap (slot_cells f) left ∙ cells_start f))
 
 pub loop-slot-preserved : goal.loop-slot-preserved
 loop-slot-preserved g c =
     let f = c.args.frame.now in
     let l = c.loop-slot in
-    let slot = c.in-Some.slot in
+    let x = c.in-Some.slot in
+    let s = c.in-Some.ensures.steps in
     let put = c.put_field.ensures in
+    let ss = slots_left l.slot-iterator in
+    let rest = slots_left c.next.new.self in
     let room = g.C.WriteCarrier.room l.carrier in
     let before = g.C.ReadCarrier.cells l.carrier in
     let after = g.C.ReadCarrier.cells c.put_field.new.carrier in
-    let v = c.part_value.result in
-    let said : Some slot ≡ nth (plan f.mode) l.k = c.in-Some.ensures.is ∙ ap (λ (m : Mode). nth (plan m) l.k) c.mode-mode.ensures in
-    let s : Sound l.k slot = slot_sound f.mode l.k slot said in
-    let r = room_more l.k room (plan f.mode) slot before after v said put.put l.invariant.3 in (
+    let v = c.part_value-value.result in
+    let grown : after ≡ before ++ bits_of x.width v = put.put ∙ ap (λ n. before ++ bits_of n v) c.from.ensures in
+    let r = room_more room ss rest x before after v s.0 grown l.invariant.3 in (
       put.fixed ∙ l.invariant.0,
       put.home ∙ l.invariant.1,
-      omega (arith, s.1),
+      s.1 ∙ l.invariant.2,
       omega (arith, r, put.fixed),
-      cells_more f l.k slot before after v said c.part_value.ensures put.put ∙ l.invariant.4,
+      cells_more f ss rest x before after v s.0 c.part_value-value.ensures grown ∙ l.invariant.4,
     )
 
 pub returns-clause-put : goal.returns-clause-put
 returns-clause-put g c =
-    let f = c.args.frame.now in
     let l = c.loop-slot in
     let cells = g.C.ReadCarrier.cells l.carrier in
-    let none : None ≡ nth (plan f.mode) l.k = c.in_default.ensures.is ∙ ap (λ (m : Mode). nth (plan m) l.k) c.mode-mode.ensures in
-    sym (cells_end f l.k cells none) ∙ l.invariant.4
+    sym (cells_end c.args.frame.now (slots_left l.slot-iterator) cells c.in-None.ensures.steps.0) ∙ l.invariant.4

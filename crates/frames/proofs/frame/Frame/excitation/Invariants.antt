@@ -1,8 +1,6 @@
-use Rattle.std.proofs.Common.{◌≡◌, ℕ, ◌*◌, ◌<◌, get_or, drop, pos}
+use Rattle.std.proofs.Common.{◌≡◌, ℕ, ◌<◌, get_or, pos}
 use Rattle.frames.specs.Sound.{sample}
 use Rattle.frames.proofs.frame.Frame.excitation.Given as goal
 
-abbrev pub invariant-loop-s : goal.invariant-loop-s
-invariant-loop-s l =
-    ((k : ℕ) → k < 64 * l.s → get_or l.out k (pos 0) ≡ sample l.self k)
-    × (drop 256 l.out ≡ drop 256 l.initial.out)
+abbrev pub invariant-loop-k : goal.invariant-loop-k
+invariant-loop-k l = (k : ℕ) → k < l.k → get_or l.sample-items k (pos 0) ≡ sample l.self k

@@ -6,7 +6,7 @@ pub returns-then-track-lt4 : goal.returns-then-track-lt4
 returns-then-track-lt4 c =
     let m = c.args.self in
     let t = c.args.track in
-    let e = ap (λ xs. get_or xs t 0) c.pulses-pulses.ensures in
+    let e = c.from.ensures ∙ ap (λ xs. get_or xs t 0) c.row.ensures.pulses in
     record {
       is = e ∙ sym (pulses_in_here m c.args.subframe t (omega arith));
       few = omega (arith, e, pulses_few m t);
