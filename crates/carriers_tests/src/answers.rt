@@ -2,7 +2,7 @@ use refusals::cause::Cause;
 use refusals::refusal::Refusal;
 
 /// The answer of a call that is refused for `cause` and names no place.
-pub fn refused<T>(cause: Cause) -> Result<T, Refusal> {
+pub(crate) fn refused<T>(cause: Cause) -> Result<T, Refusal> {
     Err(Refusal::because(cause))
 }
 

@@ -15,7 +15,7 @@ use Rattle.frames.specs.Bits.{place_of, held_for}
 use Rattle.modes.proofs.Modes.{pulses_in_none}
 use Rattle.frames.proofs.Lags.{by_four}
 
-abbrev voice : Part
+abbrev pub voice : Part
 voice = Value Voice
 
 -- a part has a place of its own, or no mode has it
@@ -103,7 +103,7 @@ places = refl
 abbrev Own : Part → Part → Type 0
 Own p q = place_of q ≡ place_of p → q ≡ p
 
-at_place : (k : ℕ) → k < 56 → place_of (get_or order k voice) ≡ k
+pub at_place : (k : ℕ) → k < 56 → place_of (get_or order k voice) ≡ k
 at_place k h = sym (get_or-map place_of order k voice 0 h) ∙ ap (λ xs. get_or xs k 0) places ∙ get_or-range_with_len 0 56 k 0 h ∙ omega arith
 
 own : (p : Part) → AllByRecursion (Own p) order

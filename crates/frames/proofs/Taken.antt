@@ -1,5 +1,5 @@
 -- What a track takes: the answers of a track set, and the rows that hold one.
-use Rattle.std.proofs.Common.{◌≡◌, ℕ, suc, ◌+◌, ◌-◌, ◌^◌, ◌<◌, ◌≤◌, leb, ◌⊎◌, List, [], ◌∷◌, length, take, replicate, Ok, Err, Result, sym, refl, ap, ◌∙◌, subst, inl, inr, ⊎_elim, arith, length-append, pow_pos, MatchResult}
+use Rattle.std.proofs.Common.{◌≡◌, ℕ, ◌+◌, ◌-◌, ◌^◌, ◌<◌, ◌≤◌, leb, ◌⊎◌, List, [], ◌∷◌, length, take, replicate, Ok, Err, Result, sym, refl, ap, ◌∙◌, subst, inl, inr, ⊎_elim, arith, length-append, pow_pos, MatchResult}
 use lib.ListN.{length-replicate}
 use Rattle.std.specs.List.{AllByRecursion}
 use Rattle.std.proofs.lemmas.List.{ext_get_or, length-take, get_or-take, take_at, get_or_append_left, get_or-append_right}
@@ -16,6 +16,7 @@ use Rattle.pulses.specs.Pulses.{Lawful, On, Sorted, Group, insert, sort}
 use Rattle.pulses.specs.Sets.{on_track, one_signed, none, at, padded, map_ok, track_set, apart}
 use Rattle.pulses.proofs.Tallies.{same_refl, same_sym, lawful_same}
 use Rattle.pulses.proofs.Canon.{sort_is, same_sort, sorted_sort}
+use Rattle.pulses.proofs.Unique.{length_sort}
 use Rattle.pulses.proofs.Signs.{Steps, follows, tail, lawful_from_steps, steps_from_lawful}
 use Rattle.pulses.proofs.Checked.{on_from_test, test_from_on, lawful_from_test, test_from_lawful, checked_ok, checked_off, checked_both, set_number, set_is}
 use Rattle.frames.specs.Frames.{Unlawful}
@@ -135,18 +136,7 @@ padded_row n M ps l g so =
       padded = λ k h. padded_past ps k (omega arith);
     }
 
--- sorting keeps the number of pulses, and what holds of each
-insert_length : (p : Pulse) (ps : List Pulse) → length (insert p ps) ≡ suc (length ps)
-unfolding insert
-insert_length p [] = refl
-insert_length p (q ∷ qs) =
-    cond_both (leb p.place q.place) (p ∷ q ∷ qs) (q ∷ insert p qs) (λ z. length z ≡ suc (suc (length qs))) (λ _. refl) (λ _. ap suc (insert_length p qs))
-
-sort_length : (ps : List Pulse) → length (sort ps) ≡ length ps
-unfolding sort
-sort_length [] = refl
-sort_length (p ∷ ps) = insert_length p (sort ps) ∙ ap suc (sort_length ps)
-
+-- sorting keeps what holds of each
 insert_all : (P : Pulse → Type 0) (p : Pulse) (ps : List Pulse) → P p → AllByRecursion P ps → AllByRecursion P (insert p ps)
 unfolding insert
 insert_all P p [] h a = (h, tt)
@@ -161,7 +151,7 @@ sort_all P (p ∷ ps) a = insert_all P p (sort ps) a.0 (sort_all P ps a.1)
 -- the sorted list of a group is a group
 pub sorted_group : (n M : ℕ) (ps : List Pulse) → Group M n ps → Group M n (sort ps)
 sorted_group n M ps g = record {
-  size = sort_length ps ∙ g.size;
+  size = length_sort ps ∙ g.size;
   on = sort_all (λ p. p.place < 2 ^ M) ps g.on;
   lawful = lawful_same ps (sort ps) (same_sym (sort ps) ps (same_sort ps)) g.lawful;
 }

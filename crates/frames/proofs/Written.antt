@@ -64,7 +64,7 @@ part_fits f (Value x) = value_fits f x
 part_fits f (High s t) = (cut f s t).high
 part_fits f (Low s t) = (cut f s t).low
 
-part_none : (f : Frame) (p : Part) → part_width f.mode p ≡ 0 → part_value f p ≡ 0
+pub part_none : (f : Frame) (p : Part) → part_width f.mode p ≡ 0 → part_value f p ≡ 0
 part_none f p e = let h = rw e at (part_fits f p) in omega arith
 
 -- what is read for a part of a written frame

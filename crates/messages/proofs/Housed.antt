@@ -1,8 +1,7 @@
 -- A record's frame stands in a message with house indices, and is read again; and what is read strictly is such a frame.
 use Rattle.std.proofs.Common.{◌≡◌, ℕ, zero, suc, ◌+◌, ◌-◌, ◌/◌, ◌%◌, ◌^◌, ◌<◌, cond, eqb, List, [], ◌∷◌, ◌++◌, map, get_or, Ok, sym, refl, ap, ◌∙◌, subst, ap₂, ⊎_elim, mul_comm, arith}
 use native.Mathlib.Nat.{div-add-mod}
-use Rattle.std.specs.List.{AllByRecursion, range_with_len}
-use Rattle.std.proofs.lemmas.List.FromFn.{get_or-range_with_len}
+use Rattle.std.specs.List.{AllByRecursion}
 use Rattle.carriers.specs.declared.bit.Bit.{Bit}
 use Rattle.carriers.specs.declared.bit.Bit.TheVariants.{Zero, One}
 use Rattle.pulses.proofs.Cuts.{cut_high, cut_low}
@@ -19,7 +18,6 @@ use Rattle.pulses.specs.Reading.{pulses_of}
 use Rattle.pulses.specs.Calls.{read_index}
 use Rattle.pulses.proofs.CallLaws.{is_read_again, was_read}
 use Rattle.modes.specs.declared.mode.Mode.{Mode}
-use Rattle.modes.specs.declared.field.Field.TheVariants.{Voice}
 use Rattle.modes.specs.declared.plan.Part.{Part}
 use Rattle.modes.specs.declared.plan.Part.TheVariants.{Value, High, Low}
 use Rattle.modes.specs.declared.plan.Slot.{Slot}
@@ -30,10 +28,10 @@ use Rattle.frames.specs.declared.frame.Frame.{Frame}
 use Rattle.frames.specs.Frames.{count_of, pulses, track_width}
 use Rattle.frames.specs.Bits.{index, part_value, place_of, spell, frame_bits}
 use Rattle.frames.specs.Bits.{bits_of as numeral_bits_of}
-use Rattle.frames.proofs.Ordered.{placed}
+use Rattle.frames.proofs.Ordered.{voice, at_place, placed}
 use Rattle.frames.proofs.Parted.{frame_front}
 use Rattle.frames.proofs.Taken.{sort_again}
-use Rattle.frames.proofs.Written.{part_fits}
+use Rattle.frames.proofs.Written.{part_fits, part_none}
 use Rattle.frames.proofs.Houses.{house_written}
 use Rattle.frames.proofs.Blanks.{replicate_at}
 use Rattle.messages.specs.Messages.{Content, content, settled, joined, questioned, blank}
@@ -44,15 +42,9 @@ use Rattle.messages.proofs.Placing.{spelt, Good}
 use Rattle.messages.proofs.Building.{away_none, low_has, high_has}
 use Rattle.messages.proofs.Accepted.{Sent, content_cells, body_of}
 
-abbrev pub voice : Part
-voice = Value Voice
-
 -- the frame of a record, as it stands in a message
 abbrev pub sent_of : Frame → Content
 sent_of f = content f.mode (map (part_value f) order ++ 0 ∷ [])
-
-part_none : (f : Frame) (p : Part) → part_width f.mode p ≡ 0 → part_value f p ≡ 0
-part_none f p e = let h = rw e at (part_fits f p) in omega arith
 
 pub sent_held : (f : Frame) (p : Part) → held (sent_of f) p ≡ part_value f p
 sent_held f p =
@@ -84,12 +76,6 @@ asked f (Low s t) has =
 
 good : (f : Frame) → AllByRecursion (Good Strict f.mode (sent_of f).values) (plan f.mode)
 good f = plan_each f.mode (Good Strict f.mode (sent_of f).values) (λ p has. (rw (sent_held f p) (part_fits f p), asked f p has))
-
-places : map place_of order ≡ range_with_len 0 56
-places = refl
-
-pub at_place : (k : ℕ) → k < 56 → place_of (get_or order k voice) ≡ k
-at_place k h = sym (get_or-map place_of order k voice 0 h) ∙ ap (λ xs. get_or xs k 0) places ∙ get_or-range_with_len 0 56 k 0 h ∙ omega arith
 
 pub single : (k : ℕ) → ◌≡◌ {A = ℕ} (get_or (0 ∷ []) k 0) 0
 single zero = refl

@@ -19,7 +19,7 @@ use Rattle.modes.proofs.Modes.{pulses_in_has}
 use Rattle.frames.specs.declared.frame.Frame.{Frame}
 use Rattle.frames.specs.Frames.{count_of, pulses, track_width}
 use Rattle.frames.specs.Bits.{place_of}
-use Rattle.frames.proofs.Ordered.{placed}
+use Rattle.frames.proofs.Ordered.{voice, at_place, placed}
 use Rattle.frames.proofs.Parted.{frame_front}
 use Rattle.frames.proofs.Blanks.{replicate_at}
 use Rattle.messages.specs.Messages.{Content, content, settled, joined, questioned, blank}
@@ -30,7 +30,7 @@ use Rattle.messages.proofs.Placing.{spelt, Good}
 use Rattle.messages.proofs.Building.{away_none, low_has}
 use Rattle.messages.proofs.Standing.{record_of, stands}
 use Rattle.messages.proofs.Accepted.{Sent, content_cells}
-use Rattle.messages.proofs.Housed.{voice, at_place, single, spell_cells}
+use Rattle.messages.proofs.Housed.{single, spell_cells}
 use Rattle.frames.proofs.Houses.{used_in}
 
 -- the frame with given values, as it stands in a message

@@ -13,15 +13,12 @@ use Rattle.messages.proofs.Placing.{spelt, append_assoc}
 use Rattle.messages.proofs.Building.{mode_told, number_low}
 use Rattle.messages.proofs.Accepted.{content_cells, body_of, tail_at, content_length}
 use Rattle.messages.proofs.Meant.{parsed}
+use Rattle.messages.proofs.Turned.{none_left}
 
 -- four cells tell their number
 head_same : (v w : ℕ) (xs ys : List Cell) → v < 16 → w < 16 → bits_of 4 v ++ xs ≡ bits_of 4 w ++ ys → v ≡ w
 head_same v w xs ys h k e =
     ok_is v w (sym (field_read (bits_of 4 v ++ xs) xs 4 v 0 h refl) ∙ field_read (bits_of 4 v ++ xs) ys 4 w 0 k e)
-
-none_left : {X : Type 0} (xs : List X) → length xs ≡ 0 → xs ≡ []
-none_left [] e = refl
-none_left (x ∷ xs) e = absurd (omega arith)
 
 -- the cells of a frame and what follows, by its mode
 front : (b : Content) (bs : List Content) (k : ℕ) (rest : List Cell) → (body_of (b ∷ bs) ++ tail_at k) ++ rest ≡ bits_of 4 (number_of b.mode) ++ (spelt b.values (plan b.mode) ++ ((body_of bs ++ tail_at k) ++ rest))

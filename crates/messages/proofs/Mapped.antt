@@ -5,7 +5,7 @@ use Rattle.std.proofs.lemmas.Result.{err_from_is_err_and}
 use Rattle.refusals.specs.declared.refusal.Refusal.{Refusal}
 use Rattle.pulses.proofs.CallLaws.{never, ok_is}
 
-err_is : {X : Type 0} (x y : Refusal) → ◌≡◌ {A = Result X Refusal} (Err x) (Err y) → x ≡ y
+pub err_is : {X : Type 0} (x y : Refusal) → ◌≡◌ {A = Result X Refusal} (Err x) (Err y) → x ≡ y
 err_is x y e = cc
 
 module _ {X E : Type 0} (q : Result X Refusal) (P : E → Refusal → Type 0) where

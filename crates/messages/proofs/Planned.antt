@@ -3,18 +3,13 @@ use Rattle.std.proofs.Common.{◌≡◌, ℕ, zero, suc, ◌<◌, ◌≤◌, Boo
 use Rattle.std.specs.List.{AllByRecursion}
 use Rattle.std.proofs.lemmas.Bool.{cond_both, ltb-true, leb-true, ltb-false, and_parts}
 use Rattle.modes.specs.declared.mode.Mode.{Mode}
-use Rattle.modes.specs.declared.field.Field.TheVariants.{Voice}
 use Rattle.modes.specs.declared.plan.Part.{Part}
-use Rattle.modes.specs.declared.plan.Part.TheVariants.{Value}
 use Rattle.modes.specs.declared.plan.Slot.{Slot}
 use Rattle.modes.specs.Modes.{pulses_in}
 use Rattle.modes.specs.Plan.{part_width, order, slot, plan}
 use Rattle.modes.proofs.Modes.{by_mode}
 use Rattle.frames.specs.Bits.{place_of}
-use Rattle.frames.proofs.Ordered.{placed}
-
-abbrev voice : Part
-voice = Value Voice
+use Rattle.frames.proofs.Ordered.{voice, placed}
 
 abbrev slots_of : Mode → List Part → List Slot
 slots_of m ps = filter (λ s. ltb 0 s.width) (map (slot m) ps)

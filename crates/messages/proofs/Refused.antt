@@ -23,19 +23,17 @@ use Rattle.frames.specs.Bits.{place_of}
 use Rattle.messages.specs.Messages.{settled, joined, questioned}
 use Rattle.messages.specs.Laws.{TrackRefusals}
 use Rattle.frames.proofs.Houses.{used_in}
+use Rattle.messages.proofs.Mapped.{err_is}
 
 abbrev Why : Reading → Refusal → Type 0
 Why how e = (e ≡ because BothSigns) ⊎ ((how ≡ Strict) × (e ≡ because NotHouseIndex))
-
-err_is : {X : Type 0} (d e : Refusal) → ◌≡◌ {A = Result X Refusal} (Err d) (Err e) → e ≡ d
-err_is d e p = cc
 
 kept_why : (how : Reading) (n M i : ℕ) (ps : List Pulse) (e : Refusal) → kept how n M i (Ok ps) ≡ Err e → Why how e
 kept_why Open n M i ps e h = absurd (never ps e (sym h))
 kept_why Strict n M i ps e h =
     cond_both (eqb (house n M ps) i) (Ok ps) (Err (because NotHouseIndex)) (λ (r : Result (List Pulse) Refusal). r ≡ Err e → Why Strict e)
     (λ t g. absurd (never ps e (sym g)))
-    (λ t g. inr (refl, err_is {X = List Pulse} (because NotHouseIndex) e g)) h
+    (λ t g. inr (refl, sym (err_is {X = List Pulse} (because NotHouseIndex) e g))) h
 
 checked_why : (how : Reading) (n M i : ℕ) (ps : List Pulse) (e : Refusal) → on_track M ps ≡ true → kept how n M i (checked M ps) ≡ Err e → Why how e
 unfolding checked
@@ -44,11 +42,11 @@ checked_why how n M i ps e o h =
     let g = subst P o h in
     cond_both (one_signed ps) (Ok (sort ps)) (Err (because BothSigns)) (λ (r : Result (List Pulse) Refusal). kept how n M i r ≡ Err e → Why how e)
     (λ t k. kept_why how n M i (sort ps) e k)
-    (λ t k. inl (err_is {X = List Pulse} (because BothSigns) e k)) g
+    (λ t k. inl (sym (err_is {X = List Pulse} (because BothSigns) e k))) g
 
 settled_err : (r : Result (List Pulse) Refusal) (e : Refusal) → settled r ≡ Err e → r ≡ Err e
 settled_err (Ok ps) e h = absurd (never tt e (sym h))
-settled_err (Err d) e h = ap Err (sym (err_is {X = Unit {0}} d e h))
+settled_err (Err d) e h = ap Err (err_is {X = Unit {0}} d e h)
 
 high_low : (w : ℕ) → w ≡ high_bits w + (w - high_bits w)
 high_low w =

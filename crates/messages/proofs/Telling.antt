@@ -20,12 +20,10 @@ use Rattle.messages.specs.Messages.{Content, content, and_then, refuse, spot_at,
 use Rattle.messages.specs.Asked.{begun, turn}
 use Rattle.messages.specs.Laws.{RefusalsTellWhere}
 use Rattle.messages.proofs.Turning.{onward, by_turn}
+use Rattle.messages.proofs.Mapped.{err_is}
 
 abbrev Told : Refusal → Type 0
 Told e = (n : ℕ) × (at : ℕ) × (e.spot.frame ≡ Some n) × (e.spot.cell ≡ Some at)
-
-err_is : {X : Type 0} (d e : Refusal) → ◌≡◌ {A = Result X Refusal} (Err d) (Err e) → d ≡ e
-err_is d e p = cc
 
 -- what may have been refused
 then_told : {X Y : Type 0} (r : Result X Refusal) (f : X → Result Y Refusal) (e : Refusal)

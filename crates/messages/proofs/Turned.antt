@@ -53,7 +53,7 @@ field_read_back : (cs : List Cell) (n at w v : ℕ) → field cs (bare n at) at 
 unfolding field
 field_read_back cs n at w v e = spotted_ok (bare n at) (read_bits cs at w 0) v e
 
-none_left : {X : Type 0} (xs : List X) → length xs ≡ 0 → xs ≡ []
+pub none_left : {X : Type 0} (xs : List X) → length xs ≡ 0 → xs ≡ []
 none_left [] e = refl
 none_left (x ∷ xs) e = absurd (omega arith)
 
