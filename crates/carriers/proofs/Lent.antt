@@ -11,7 +11,7 @@ use Rattle.carriers.proofs.Tables.{table_length}
 use Rattle.carriers.proofs.Rows.{bits_length}
 
 -- a row that was put on no cells is all that the memory holds up to its length
-lent_row : (f : ℕ → Cell) (k w v : ℕ) (cs : List Cell) → cs ≡ [] → table f k ≡ cs ++ bits_of w v → table f w ≡ bits_of w v
+pub lent_row : (f : ℕ → Cell) (k w v : ℕ) (cs : List Cell) → cs ≡ [] → table f k ≡ cs ++ bits_of w v → table f w ≡ bits_of w v
 lent_row f k w v cs none e =
     let row : table f k ≡ bits_of w v = e ∙ ap (λ (l : List Cell). l ++ bits_of w v) none in
     let same : k ≡ w = sym (table_length f k) ∙ ap length row ∙ bits_length w v in

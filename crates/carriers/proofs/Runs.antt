@@ -1,10 +1,11 @@
 -- Runs of accepted puts. Assumes Rows, Spelt, FieldCells.
-use Rattle.std.proofs.Common.{◌≡◌, ℕ, ◌+◌, ◌%◌, ◌^◌, List, [], ◌∷◌, ◌++◌, map, length, drop, Ok, sym, ap, ◌∙◌, append_assoc, mod-lt, arith, length-append, pow_pos}
+use Rattle.std.proofs.Common.{◌≡◌, ℕ, ◌+◌, ◌%◌, ◌^◌, List, [], ◌∷◌, ◌++◌, map, length, drop, IfOk, Ok, Err, Result, sym, ap, ◌∙◌, append_assoc, mod-lt, arith, length-append, pow_pos}
 use lib.Seq.{drop-append_seam}
 use Rattle.std.proofs.lemmas.List.{append-nil}
+use Rattle.refusals.specs.declared.refusal.Refusal.{Refusal}
 use Rattle.carriers.specs.declared.bit.Bit.{Bit}
 use Rattle.carriers.specs.Cells.{Cell, bit}
-use Rattle.carriers.specs.Fields.{bits_of}
+use Rattle.carriers.specs.Fields.{bits_of, PutBits}
 use Rattle.carriers.specs.FieldReading.{read_bits}
 use Rattle.carriers.specs.WritingLaws.{BitsPut, no_bits, then_bit, SameBitsSameCells, Field, FieldsPut, no_fields, then_field, FieldsRead, FieldsReadBack}
 use Rattle.carriers.proofs.Rows.{bits_length, bits_low}
@@ -18,11 +19,13 @@ read_end cs w v =
     field_read (cs ++ bits_of w v) [] w (v % 2 ^ w) (length cs) (mod-lt v (pow_pos w)) same
 
 -- what was put is read back, and what could be read before still is
-pub put_back : (before after : List Cell) (v w : ℕ) → after ≡ before ++ bits_of w v → read_bits after (length before) w 0 ≡ Ok (v % 2 ^ w)
-put_back before after v w e = rw e (read_end before w v)
+pub put_back : (before after : List Cell) (room v w : ℕ) (r : Result Unit Refusal) → PutBits before room v w r after → IfOk r (λ _. read_bits after (length before) w 0 ≡ Ok (v % 2 ^ w))
+put_back before after room v w (Ok _) said = rw said.1 (read_end before w v)
+put_back before after room v w (Err _) said = tt
 
-pub put_kept : (before after : List Cell) (v w at n x : ℕ) → after ≡ before ++ bits_of w v → read_bits before at n 0 ≡ Ok x → read_bits after at n 0 ≡ Ok x
-put_kept before after v w at n x e said = rw e (read_longer before (bits_of w v) at n 0 x said)
+pub put_kept : (before after : List Cell) (room v w : ℕ) (r : Result Unit Refusal) → PutBits before room v w r after → (at n x : ℕ) → read_bits before at n 0 ≡ Ok x → read_bits after at n 0 ≡ Ok x
+put_kept before after room v w (Ok _) said at n x e = rw said.1 (read_longer before (bits_of w v) at n 0 x e)
+put_kept before after room v w (Err _) said at n x e = rw said.2 e
 
 bits_all : (room : ℕ) (before after : List Cell) (bs : List Bit) → BitsPut room before bs after → after ≡ before ++ map bit bs
 bits_all room before after [] no_bits = sym (append-nil before)

@@ -78,7 +78,7 @@ track_copied f to to' s t given r em has eg h =
       others = d.others;
     }
 
-track_left : (f to : Frame) (s t : ℕ) → to.mode ≡ f.mode → count_of f s t ≡ 0 → TrackCopied f to to s t
+pub track_left : (f to : Frame) (s t : ℕ) → to.mode ≡ f.mode → count_of f s t ≡ 0 → TrackCopied f to to s t
 track_left f to s t em z =
     let zt : count_of to s t ≡ 0 = rw em z in
     record { mode = refl; fields = λ x. refl; here = rw (z, zt); others = λ s' t' ne. refl }

@@ -22,20 +22,20 @@ signs_decide s t = (same_true sign.the_type tt s t, true_same sign.the_type s t)
 modes_decide : (m n : Mode) → Decides (sameb mode.the_type m n) (m ≡ n)
 modes_decide m n = (same_true mode.the_type tt m n, true_same mode.the_type m n)
 
-pulses_decide : (p q : Pulse) → Decides ((pulse.eq-value).it p q) (p ≡ q)
+pub pulses_decide : (p q : Pulse) → Decides ((pulse.eq-value).it p q) (p ≡ q)
 pulses_decide p q =
     Decides-like _
     (λ e i. record { place = e.0 i; sign = e.1 i })
     (λ e. (ap (λ r. r.place) e, ap (λ r. r.sign) e))
     (Decides-and _ _ (Decides-eqb p.place q.place) (signs_decide p.sign q.sign))
 
-values_decide : (xs ys : List ℕ) → Decides (pointwise nat_eq xs ys) (xs ≡ ys)
+pub values_decide : (xs ys : List ℕ) → Decides (pointwise nat_eq xs ys) (xs ≡ ys)
 values_decide xs ys = slice_eq-Decides {E = nat_eq} Decides-eqb xs ys _ refl
 
 row_decides : (xs ys : List Pulse) → Decides (pointwise (pulse.eq-value).it xs ys) (xs ≡ ys)
 row_decides xs ys = slice_eq-Decides {E = (pulse.eq-value).it} pulses_decide xs ys _ refl
 
-rows_decide : (xs ys : List (List Pulse)) → Decides (pointwise (pointwise (pulse.eq-value).it) xs ys) (xs ≡ ys)
+pub rows_decide : (xs ys : List (List Pulse)) → Decides (pointwise (pointwise (pulse.eq-value).it) xs ys) (xs ≡ ys)
 rows_decide xs ys = slice_eq-Decides {E = pointwise (pulse.eq-value).it} row_decides xs ys _ refl
 
 frames_decide : (f g : Frame) → Decides ((frame.eq-value).it f g) (f ≡ g)

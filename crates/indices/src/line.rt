@@ -23,6 +23,8 @@ impl fmt::Display for Question {
 /// What the last octet of a line was.
 #[derive(Clone, Copy)]
 enum Last {
+    /// There was none yet.
+    Nothing,
     Digit,
     Blank,
     /// A carriage return, which only the line's end may follow.
@@ -37,44 +39,46 @@ enum Last {
 #[derive(Clone, Copy)]
 pub struct Line {
     numbers: [Option<u32>; 3],
-    last: Option<Last>,
+    last: Last,
 }
 
 impl Line {
     pub fn new() -> Line {
         Line {
             numbers: [None; 3],
-            last: None,
+            last: Last::Nothing,
         }
     }
 
     /// Whether no octet was taken yet.
     pub fn is_empty(&self) -> bool {
-        self.last.is_none()
+        matches!(self.last, Last::Nothing)
     }
 
-    /// The line with one more octet, if it can still be three numbers.
-    pub fn with_octet(self, octet: u8) -> Option<Line> {
-        let Line { numbers, last } = self;
-        match (last, octet) {
-            (Some(Last::Return), _) => None,
-            (Some(Last::Digit), b'0'..=b'9') => Some(Line {
-                numbers: with_digit(numbers, octet - b'0')?,
-                last,
-            }),
-            (_, b'0'..=b'9') => Some(Line {
-                numbers: with_number(numbers, octet - b'0')?,
-                last: Some(Last::Digit),
-            }),
-            (_, b' ' | b'\t') => Some(Line {
-                numbers,
-                last: Some(Last::Blank),
-            }),
-            (_, b'\r') => Some(Line {
-                numbers,
-                last: Some(Last::Return),
-            }),
-            _ => None,
+    /// Takes the line's next octet, if the line can still be three numbers.
+    // In place: moving a line out and in again costs more than what most octets
+    // do with it.
+    pub fn take(&mut self, octet: u8) -> Option<()> {
+        if matches!(self.last, Last::Return) {
+            return None;
+        }
+        self.last = match octet {
+            b'0'..=b'9' => {
+                self.numbers = self.with_digit(octet - b'0')?;
+                Last::Digit
+            }
+            b' ' | b'\t' => Last::Blank,
+            b'\r' => Last::Return,
+            _ => return None,
+        };
+        Some(())
+    }
+
+    /// The numbers with one more digit: of the last of them, or of a new one.
+    fn with_digit(&self, digit: u8) -> Option<[Option<u32>; 3]> {
+        match self.last {
+            Last::Digit => with_digit(self.numbers, digit),
+            _ => with_number(self.numbers, digit),
         }
     }
 

@@ -13,7 +13,7 @@ use pulses::index::{Reading, read_index, write_index};
 use pulses::pulse::Pulse;
 use pulses::set::NONE;
 use refusals::refusal::Refusal;
-use std::io::{BufReader, BufWriter, Read, Write};
+use std::io::{BufWriter, Read, Write};
 use std::{fmt, io};
 
 /// What a question is answered with.
@@ -105,26 +105,41 @@ impl Input {
         Ok(())
     }
 
-    fn take<W: Write>(&mut self, out: &mut W, octet: u8) -> io::Result<()> {
-        match octet {
-            b'\n' => self.end_line(out),
-            _ => {
-                self.line = self.line.and_then(|line| line.with_octet(octet));
-                Ok(())
+    /// Goes on with the line, or gives it up.
+    fn go_on(&mut self, octet: u8) {
+        let taken = self.line.as_mut().and_then(|line| line.take(octet));
+        if taken.is_none() {
+            self.line = None;
+        }
+    }
+
+    fn take<W: Write>(&mut self, out: &mut W, octets: &[u8]) -> io::Result<()> {
+        for octet in octets {
+            match *octet {
+                b'\n' => self.end_line(out)?,
+                octet => self.go_on(octet),
             }
         }
+        Ok(())
     }
 }
 
 fn main(rt: HostRuntime) -> io::Result<()> {
-    let from = BufReader::new(rt.alloc(), rt.stdin())?;
+    let mut from = rt.stdin();
     let mut out = BufWriter::new(rt.alloc(), rt.stdout())?;
     let mut input = Input {
         line: Some(Line::new()),
         number: 1,
     };
-    for octet in from.bytes() {
-        input.take(&mut out, octet?)?;
+    // By buffers of octets, and not by `bytes`: what that does for each octet
+    // costs more than what the line does with it.
+    let mut buf = [0u8; 4096];
+    for _ in 0..u64::MAX {
+        let n = from.read(&mut buf)?;
+        if n == 0 {
+            break;
+        }
+        input.take(&mut out, &buf[..n])?;
     }
     if !input.line.is_some_and(|line| line.is_empty()) {
         input.end_line(&mut out)?;

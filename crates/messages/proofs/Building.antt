@@ -32,7 +32,7 @@ use Rattle.messages.proofs.Questions.{few}
 use Rattle.messages.proofs.Placing.{low_wide}
 
 -- a copied field is a copied part, and so is a copied track
-by_field : (f before after : Frame) (x : Field) → FieldCopied f before after x → Copied f before after (Value x)
+pub by_field : (f before after : Frame) (x : Field) → FieldCopied f before after x → Copied f before after (Value x)
 by_field f before after x c = record { mode = c.mode; here = c.here; others = go }
   where
     go : (q : Part) → (q ≡ Value x → ⊥) → PartSame before f q → PartSame after f q

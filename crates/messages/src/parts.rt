@@ -152,6 +152,8 @@ impl Parts {
 
     /// Why the value of a part is refused, after the values before it: a
     /// track is asked with its last part.
+    // Inlined, since it is asked for each slot, and most parts ask nothing.
+    #[inline(always)]
     #[tactic(auto, using(crate::proofs::Asked::by_whole))]
     pub(crate) fn question(&self, part: Part, value: FieldValue) -> Result<(), Refusal>
         ensures { result ≡ questioned self.now.how self.now.mode self.now.values part value.width value.number }

@@ -104,20 +104,20 @@ impl TryFrom<u8> for Mode {
 
 impl Mode {
     /// What the mode gives a frame.
-    pub(crate) fn row(self) -> Row
-        ensures spectrum { result.spectrum ≡ (row self).spectrum }
-        ensures delays { result.delays ≡ (row self).delays }
-        ensures filter_flag { result.filter_flag ≡ (row self).filter }
-        ensures gain { result.gain ≡ (row self).gain }
-        ensures high_band { result.high_band ≡ (row self).band }
-        ensures pulses { result.pulses ≡ (row self).pulses }
-        ensures track_width { result.track_width ≡ (row self).places }
-        ensures tracks { result.tracks ≡ (row self).tracks }
-        ensures heads { result.heads ≡ heads self }
-        ensures cuts { result.cuts ≡ cuts self }
+    pub(crate) fn row(self) -> &'static Row
+        ensures spectrum { result.now.spectrum ≡ (row self).spectrum }
+        ensures delays { result.now.delays ≡ (row self).delays }
+        ensures filter_flag { result.now.filter_flag ≡ (row self).filter }
+        ensures gain { result.now.gain ≡ (row self).gain }
+        ensures high_band { result.now.high_band ≡ (row self).band }
+        ensures pulses { result.now.pulses ≡ (row self).pulses }
+        ensures track_width { result.now.track_width ≡ (row self).places }
+        ensures tracks { result.now.tracks ≡ (row self).tracks }
+        ensures heads { result.now.heads ≡ heads self }
+        ensures cuts { result.now.cuts ≡ cuts self }
     {
         match self {
-            Mode::Rate6k60 => Row {
+            Mode::Rate6k60 => &Row {
                 spectrum: [8, 8, 7, 7, 6, 0, 0],
                 delays: [8, 5, 5, 5],
                 filter_flag: 0,
@@ -129,7 +129,7 @@ impl Mode {
                 heads: 6,
                 cuts: 0,
             },
-            Mode::Rate8k85 => Row {
+            Mode::Rate8k85 => &Row {
                 delays: [8, 5, 8, 5],
                 filter_flag: 0,
                 gain: 6,
@@ -137,31 +137,31 @@ impl Mode {
                 cuts: 0,
                 ..UPPER
             },
-            Mode::Rate12k65 => Row {
+            Mode::Rate12k65 => &Row {
                 pulses: [2, 2, 2, 2],
                 cuts: 0,
                 ..UPPER
             },
-            Mode::Rate14k25 => Row {
+            Mode::Rate14k25 => &Row {
                 pulses: [3, 3, 2, 2],
                 cuts: 0,
                 ..UPPER
             },
-            Mode::Rate15k85 => Row {
+            Mode::Rate15k85 => &Row {
                 pulses: [3, 3, 3, 3],
                 cuts: 0,
                 ..UPPER
             },
-            Mode::Rate18k25 => Row {
+            Mode::Rate18k25 => &Row {
                 pulses: [4, 4, 4, 4],
                 ..UPPER
             },
-            Mode::Rate19k85 => Row {
+            Mode::Rate19k85 => &Row {
                 pulses: [5, 5, 4, 4],
                 ..UPPER
             },
-            Mode::Rate23k05 => UPPER,
-            Mode::Rate23k85 => Row {
+            Mode::Rate23k05 => &UPPER,
+            Mode::Rate23k85 => &Row {
                 high_band: 4,
                 ..UPPER
             },

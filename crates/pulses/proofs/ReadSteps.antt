@@ -11,7 +11,7 @@ use Rattle.pulses.specs.Reading.{two_of, three_of, close_of, four_by, four_of, f
 use Rattle.pulses.proofs.Cuts.{widen, mid_is}
 use Rattle.pulses.proofs.Halves.{up_append}
 
-up_up : (m n : ℕ) (ps : List Pulse) → up n (up m ps) ≡ up (m + n) ps
+pub up_up : (m n : ℕ) (ps : List Pulse) → up n (up m ps) ≡ up (m + n) ps
 unfolding up
 up_up m n [] = refl
 up_up m n (p ∷ ps) = ap₂ (λ x qs. pulse x p.sign ∷ qs) (add_assoc p.place m n) (up_up m n ps)

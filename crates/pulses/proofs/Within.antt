@@ -19,7 +19,7 @@ pub length_down : (M : ℕ) (ps : List Pulse) → length (down M ps) ≡ length 
 unfolding down
 length_down M ps = length-map ps (λ p. pulse (p.place % 2 ^ M) p.sign)
 
-down_append : (M : ℕ) (ps qs : List Pulse) → down M (ps ++ qs) ≡ down M ps ++ down M qs
+pub down_append : (M : ℕ) (ps qs : List Pulse) → down M (ps ++ qs) ≡ down M ps ++ down M qs
 unfolding down
 down_append M ps qs = map-append (λ p. pulse (p.place % 2 ^ M) p.sign) ps qs
 
@@ -133,12 +133,12 @@ module _ (H n : ℕ) (ps : List Pulse) (a : Sorted (down (suc H) ps)) (e : n ≡
         high_sorted = let P : ℕ → Type 0 = λ z. Sorted (down z (drop n ps)) in subst P w (subst Sorted high_down (sorted_half H 1 _ a));
       }
 
-halved_is : (M n : ℕ) (ps : List Pulse) → 1 ≤ M → Sorted (down M ps) → n ≡ length (half (M - 1) 0 (down M ps)) → Halved M ps (take n ps) (drop n ps)
+pub halved_is : (M n : ℕ) (ps : List Pulse) → 1 ≤ M → Sorted (down M ps) → n ≡ length (half (M - 1) 0 (down M ps)) → Halved M ps (take n ps) (drop n ps)
 halved_is zero n ps h a e = absurd (omega arith)
 halved_is (suc H) n ps h a e =
     let w : suc H - 1 ≡ H = omega arith in halved H n ps a (e ∙ ap (λ z. length (half z 0 (down (suc H) ps))) w)
 
-sorted_drop : (k : ℕ) (ps : List Pulse) → Sorted ps → Sorted (drop k ps)
+pub sorted_drop : (k : ℕ) (ps : List Pulse) → Sorted ps → Sorted (drop k ps)
 sorted_drop zero ps a = a
 sorted_drop (suc k) [] a = tt
 sorted_drop (suc k) (p ∷ ps) a = sorted_drop k ps a.1
@@ -249,7 +249,7 @@ module _ (H n k : ℕ) (ps : List Pulse) (a : Sorted (down (suc H) ps)) (e : n �
       }
 
 -- where the house takes k pulses: s is where they begin
-chosen_is : (k M n h s : ℕ) (ps : List Pulse) → 1 ≤ M → Sorted (down M ps) → n ≡ length (half (M - 1) 0 (down M ps)) → n ≤ length ps
+pub chosen_is : (k M n h s : ℕ) (ps : List Pulse) → 1 ≤ M → Sorted (down M ps) → n ≡ length (half (M - 1) 0 (down M ps)) → n ≤ length ps
     → ((k ≤ n) × ((h ≡ 0) × (s ≡ 0))) ⊎ ((n < k) × ((h ≡ 1) × (s ≡ n)))
     → Chosen k M ps h (take k (drop s ps)) (take s ps ++ drop (s + k) ps)
 chosen_is k zero n h s ps w a e m c = absurd (omega arith)

@@ -60,6 +60,8 @@ fn all_follow(pulses: &[Pulse]) -> bool
 /// Refused where the number of pulses is another or above six
 /// (`Cause::WrongNumber`), where a place is off the track (`Cause::OffTrack`)
 /// and where a place has both signs (`Cause::BothSigns`), asked in this order.
+// Inlined, since at a call a row or a refusal goes through memory once more.
+#[inline(always)]
 #[tactic(auto, using(crate::proofs::Checked::set_answers))]
 pub fn track_set(number: usize, width: u32, pulses: &[Pulse]) -> Result<[Pulse; 6], Refusal>
     ensures { result ≡ track_set number width pulses.now }

@@ -39,7 +39,7 @@ unfolding slot_cells
 cells_end f ss cells e = rw e (append-nil cells)
 
 -- the room that is left
-length_more : (before after : List Cell) (w v : ℕ) → after ≡ before ++ bits_of w v → length after ≡ length before + w
+pub length_more : (before after : List Cell) (w v : ℕ) → after ≡ before ++ bits_of w v → length after ≡ length before + w
 length_more before after w v e = ap length e ∙ length-append before (bits_of w v) ∙ ap (λ n. length before + n) (bits_length w v)
 
 pub room_more : (room : ℕ) (ss rest : List Slot) (s : Slot) (before after : List Cell) (v : ℕ) → ss ≡ s ∷ rest → after ≡ before ++ bits_of s.width v → length before + total ss ≤ room

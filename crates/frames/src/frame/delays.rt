@@ -68,7 +68,10 @@ impl Frame {
         ensures is { result ≡ value_of self.now (DelayOf subframe) }
         ensures small { result < 512 }
     {
-        self.get(Field::Delay(subframe)).unwrap_or(0)
+        self.values
+            .get(Field::Delay(subframe).cell())
+            .copied()
+            .unwrap_or(0)
     }
 
     /// The delay of a subframe, in quarter samples.

@@ -59,11 +59,14 @@ impl Frame {
         ensures { MatchResult result (λ _. TrackSet self.old self.new subframe track pulses.now) (λ e. TrackRefused self.old self.new subframe track pulses.now e) }
     {
         let count = self.count(subframe, track)?;
-        let row = track_set(count, u32::from(self.mode.track_width()), pulses).map_err(|e| refused(
-            e.cause, subframe, track,
-        ))?;
-        self.tracks[4 * subframe + track] = row;
-        Ok(())
+        // Not by `map_err` and `?`, which move the row once more for each.
+        match track_set(count, u32::from(self.mode.track_width()), pulses) {
+            Ok(row) => {
+                self.tracks[4 * subframe + track] = row;
+                Ok(())
+            }
+            Err(e) => Err(refused(e.cause, subframe, track)),
+        }
     }
 
     /// Writes the pulses of a track into the front of `out`, from the lowest

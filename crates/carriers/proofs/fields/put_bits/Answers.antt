@@ -1,4 +1,4 @@
-use Rattle.std.proofs.Common.{◌∙◌, arith}
+use Rattle.std.proofs.Common.{◌∙◌, Ok, arith}
 use Rattle.carriers.proofs.Rows.{row_more, row_done}
 use Rattle.carriers.proofs.Runs.{put_back, put_kept}
 use Rattle.carriers.proofs.fields.put_bits.Goals as goal
@@ -12,8 +12,10 @@ loop-place-preserved g c =
 
 pub returns-clause-back : goal.returns-clause-back
 returns-clause-back g c =
-    put_back _ _ c.args.value c.args.width (row_done _ _ c.loop-place.place c.args.value c.loop-place-test.false c.loop-place.invariant.whole)
+    let put = row_done _ _ c.loop-place.place c.args.value c.loop-place-test.false c.loop-place.invariant.whole in
+    put_back _ _ c.capacity.result c.args.value c.args.width (Ok tt) (omega (arith, c.if-len-width.false, c.len.ensures), put)
 
 pub returns-clause-kept : goal.returns-clause-kept
 returns-clause-kept g c at w v =
-    put_kept _ _ c.args.value c.args.width at w v (row_done _ _ c.loop-place.place c.args.value c.loop-place-test.false c.loop-place.invariant.whole)
+    let put = row_done _ _ c.loop-place.place c.args.value c.loop-place-test.false c.loop-place.invariant.whole in
+    put_kept _ _ c.capacity.result c.args.value c.args.width (Ok tt) (omega (arith, c.if-len-width.false, c.len.ensures), put) at w v
