@@ -1,10 +1,11 @@
-ghost use Rattle.std.specs.Prelude.{◌≡◌, ◌<◌};
+ghost use Rattle.std.specs.Prelude.{◌≡◌, ◌*◌, ◌<◌, length};
+ghost use Rattle.carriers.specs.Cells.{bit};
 ghost use Rattle.carriers.specs.Octets.{octet_at, OctetsPut};
 ghost use Rattle.carriers.specs.WithBit.{with_bit};
 ghost use Rattle.carriers.specs.Units.{octets_here, octets_below, octets_refused};
 
 use crate::bit::Bit;
-use crate::units::MemoryUnit;
+use crate::units::{MemoryUnit, counted};
 use refusals::cause::Cause;
 use refusals::refusal::Refusal;
 
@@ -22,7 +23,16 @@ impl MemoryUnit for u8 {
         if at / 8 >= units.len() {
             return Err(Cause::CellMissing.into());
         }
-        Ok(Bit::at(u32::from(units[at / 8]), 7 - (at % 8) as u32))
+        Ok(bit_in(units, at))
+    }
+
+    // No cell of octets is bad, so that the place is asked for once.
+    #[tactic(auto, using(crate::proofs::Tables::table_in, crate::proofs::Tables::table_past))]
+    fn cell(units: &[u8], cells: usize, at: usize) -> Result<Bit, Refusal> {
+        if at >= cells.min(counted(8, units.len())) {
+            return Err(Cause::CellMissing.into());
+        }
+        Ok(bit_in(units, at))
     }
 
     #[tactic(auto, using(std::proofs::lemmas::Grind::common_steps, crate::proofs::OctetCells::octet_here, crate::proofs::OctetCells::octet_others))]
@@ -39,6 +49,14 @@ impl MemoryUnit for u8 {
     ghost here = { octets_here };
 
     ghost below = { octets_below };
+}
+
+/// The bit at a place of octets.
+fn bit_in(units: &[u8], at: usize) -> Bit
+    requires { at < 8 * length units.now }
+    ensures { bit result ≡ octet_at units.now at }
+{
+    Bit::at(u32::from(units[at / 8]), 7 - (at % 8) as u32)
 }
 
 /// The octet with its bit of weight 2^place set to `bit`, and every other kept.

@@ -5,7 +5,7 @@ ghost use Rattle.carriers.specs.Memory.{room_of, reader_cells, reader_bounded};
 use crate::bit::Bit;
 use crate::memory::Reader;
 use crate::traits::ReadCarrier;
-use crate::units::{MemoryUnit, cell_of, room_for};
+use crate::units::{MemoryUnit, room_for};
 use refusals::refusal::Refusal;
 
 impl<'a, U: MemoryUnit> Reader<'a, U> {
@@ -30,6 +30,6 @@ impl<'a, U: MemoryUnit> ReadCarrier for Reader<'a, U> {
 
     #[tactic(auto, using(crate::proofs::Tables::table_length))]
     fn cell(&self, at: usize) -> Result<Bit, Refusal> {
-        cell_of(self.memory, self.len(), at)
+        U::cell(self.memory, self.len(), at)
     }
 }

@@ -33,6 +33,23 @@ pub trait MemoryUnit: Copy {
         ensures within { at < CELLS * length units.now → result ≡ answer (cell_in units.now at) }
         ensures beyond { CELLS * length units.now ≤ at → result ≡ Err (because CellMissing) };
 
+    /// The bit of the cell at a place of a carrier, which has the first
+    /// `cells` of the units' cells, and at most 300,000.
+    ///
+    /// Refused with `CellMissing` where the carrier has no such place, and with
+    /// `BadCell` where the cell is bad.
+    // Said here for every unit, by `read`, which asks for the place again; a
+    // unit whose cells are never bad can say it with one question.
+    #[tactic(auto, using(crate::proofs::Tables::table_in, crate::proofs::Tables::table_past))]
+    fn cell(units: &[Self], cells: usize, at: usize) -> Result<Bit, Refusal>
+        ensures { result ≡ cell_at (table (cell_in units.now) (min cells (min max_cells (CELLS * length units.now)))) at }
+    {
+        if at >= cells.min(counted(Self::CELLS, units.len())) {
+            return Err(Cause::CellMissing.into());
+        }
+        Self::read(units, at)
+    }
+
     /// Puts a bit at a place.
     ///
     /// Refused with `CarrierFull` where the units have no such place.
@@ -51,21 +68,16 @@ pub trait MemoryUnit: Copy {
     ghost below: { (before after : List Self) (at i : ℕ) (b : Bit) → put_gives before at b (Ok tt) after → i < at → cell_in after i ≡ cell_in before i };
 }
 
+/// The cells that so many units count for, each of which holds so many.
+pub(crate) fn counted(each: usize, units: usize) -> usize
+    ensures { result ≡ min max_cells (each * units) }
+{
+    each.saturating_mul(units).min(MAX_CELLS)
+}
+
 /// The cells that so many units count for.
 pub(crate) fn room_for<U: MemoryUnit>(units: usize) -> usize
     ensures { result ≡ min max_cells (U.CELLS * units) }
 {
-    U::CELLS.saturating_mul(units).min(MAX_CELLS)
-}
-
-/// The bit of the cell at a place, of so many cells of the memory.
-#[tactic(auto, using(crate::proofs::Tables::table_in, crate::proofs::Tables::table_past))]
-pub(crate) fn cell_of<U: MemoryUnit>(memory: &[U], cells: usize, at: usize) -> Result<Bit, Refusal>
-    requires { cells ≤ U.CELLS * length memory.now }
-    ensures { result ≡ cell_at (table (U.cell_in memory.now) cells) at }
-{
-    if at >= cells {
-        return Err(Cause::CellMissing.into());
-    }
-    U::read(memory, at)
+    counted(U::CELLS, units)
 }

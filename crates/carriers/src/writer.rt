@@ -5,7 +5,7 @@ ghost use Rattle.carriers.specs.Memory.{writer_cells, writer_bounded, writer_roo
 use crate::bit::Bit;
 use crate::memory::Writer;
 use crate::traits::{ReadCarrier, WriteCarrier};
-use crate::units::{MemoryUnit, cell_of, room_for};
+use crate::units::{MemoryUnit, room_for};
 use refusals::cause::Cause;
 use refusals::refusal::Refusal;
 
@@ -32,7 +32,7 @@ impl<'a, U: MemoryUnit> ReadCarrier for Writer<'a, U> {
     }
 
     fn cell(&self, at: usize) -> Result<Bit, Refusal> {
-        cell_of(self.memory, self.used, at)
+        U::cell(self.memory, self.used, at)
     }
 }
 
