@@ -99,6 +99,8 @@ impl Used {
 /// asked in this order.
 ///
 /// At width 4, `7-` and `3+` give 371, whichever comes first.
+// Inlined: see `track_set`.
+#[inline(always)]
 #[tactic(auto, using(crate::proofs::CallLaws::writing_laws))]
 pub fn write_index(width: u32, pulses: &[Pulse]) -> Result<u32, Refusal>
     ensures answer { result ≡ write_index width pulses.now }

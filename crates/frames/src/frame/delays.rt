@@ -75,6 +75,8 @@ impl Frame {
     }
 
     /// The delay of a subframe, in quarter samples.
+    // Inlined, since it is short in each of the four.
+    #[inline(always)]
     fn delay(&self, subframe: usize) -> u16
         requires { subframe < 4 }
         ensures { result ≡ delay_of self.now subframe }

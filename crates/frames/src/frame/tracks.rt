@@ -50,6 +50,8 @@ impl Frame {
     /// the number of pulses is another (`Cause::WrongNumber`), where a place is
     /// off the track (`Cause::OffTrack`) and where a place has both signs
     /// (`Cause::BothSigns`), asked in this order.
+    // Inlined: see `pulses::set::track_set`.
+    #[inline(always)]
     pub fn set_track(
         &mut self,
         subframe: usize,
@@ -59,14 +61,11 @@ impl Frame {
         ensures { MatchResult result (λ _. TrackSet self.old self.new subframe track pulses.now) (λ e. TrackRefused self.old self.new subframe track pulses.now e) }
     {
         let count = self.count(subframe, track)?;
-        // Not by `map_err` and `?`, which move the row once more for each.
-        match track_set(count, u32::from(self.mode.track_width()), pulses) {
-            Ok(row) => {
-                self.tracks[4 * subframe + track] = row;
-                Ok(())
-            }
-            Err(e) => Err(refused(e.cause, subframe, track)),
-        }
+        let row = track_set(count, u32::from(self.mode.track_width()), pulses).map_err(|e| refused(
+            e.cause, subframe, track,
+        ))?;
+        self.tracks[4 * subframe + track] = row;
+        Ok(())
     }
 
     /// Writes the pulses of a track into the front of `out`, from the lowest
