@@ -14,8 +14,6 @@ pub const NONE: Pulse = Pulse {
 };
 
 /// The pulses from the lowest place up, and [`NONE`] behind them.
-// Inlined: see `track_set`.
-#[inline(always)]
 fn in_order(pulses: &[Pulse]) -> [Pulse; 6]
     requires { length pulses.now ≤ 6 }
     ensures { InOrder pulses.now result }
@@ -62,8 +60,8 @@ fn all_follow(pulses: &[Pulse]) -> bool
 /// Refused where the number of pulses is another or above six
 /// (`Cause::WrongNumber`), where a place is off the track (`Cause::OffTrack`)
 /// and where a place has both signs (`Cause::BothSigns`), asked in this order.
-// Inlined, as `in_order` and those that ask for a set are: most tracks have a
-// few pulses, and what a call moves through memory is most of their cost.
+// Inlined, as those that ask for a set are: most tracks have a few pulses, and
+// what a call moves through memory is most of their cost.
 #[inline(always)]
 #[tactic(auto, using(crate::proofs::Checked::set_answers))]
 pub fn track_set(number: usize, width: u32, pulses: &[Pulse]) -> Result<[Pulse; 6], Refusal>
